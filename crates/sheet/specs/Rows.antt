@@ -1,0 +1,79 @@
+-- What follows from a row of the sheet.
+use mathlib.Core.Bool.{Bool, cond}
+use mathlib.Core.List.{List, [], _∷_, _++_}
+use Prim.Native.Nat.{ℕ, zero, suc, _+_}
+use lib.Dec.{eqb}
+use lib.ListN.{getD, take, replicate}
+use Rattle.wire.specs.Layout.{numbers, laid, sum}
+use Rattle.wire.specs.Tests.{firstFalse}
+use Rattle.sheet.specs.declared.Head.{Head}
+use Rattle.sheet.specs.Sheet.{Field, Row, sheet}
+
+abbrev widthsOf : List Field → List ℕ
+widthsOf [] = []
+widthsOf (f ∷ fs) = f .width ∷ widthsOf fs
+
+abbrev pub widths : Row → List ℕ
+widths r = widthsOf (r .fields)
+
+-- "Total length counts identifier and CRC."
+abbrev pub total : Row → ℕ
+total r = 4 + (sum (widths r) + r .reserved) + 2
+
+-- "Each block has one length, one set name and one get name, fixed with the block."
+abbrev pub headOf : Row → Head
+headOf r = record { total = total r; set = r .setName; get = r .getName }
+
+-- ---- data sections
+
+-- the numbers of the fields, in their sequence; "Reserved bytes of a set are ignored"
+abbrev pub numbersIn : Row → List ℕ → List ℕ
+numbersIn r d = numbers (widths r) 0 d
+
+-- the data section of these numbers; "a get sends zeros there"
+abbrev pub dataOf : Row → List ℕ → List ℕ
+dataOf r ns = laid (widths r ++ r .reserved ∷ []) ns
+
+-- a data section with its reserved bytes zero
+abbrev pub canonical : Row → List ℕ → List ℕ
+canonical r d = take (sum (widths r)) d ++ replicate (r .reserved) 0
+
+-- ---- ranges
+
+-- the tests of the fields, on the numbers from place k on
+abbrev pub verdicts : List Field → ℕ → List ℕ → List Bool
+verdicts [] k ns = []
+verdicts (f ∷ fs) k ns = f .test (getD ns k 0) ∷ verdicts fs (k + 1) ns
+
+-- "Fields are numbered from 1 in this order": the number of the first field out of its range, or 0
+abbrev pub firstBad : Row → List ℕ → ℕ
+firstBad r ns = firstFalse 1 (verdicts (r .fields) 0 ns)
+
+-- ---- "On a fresh board every field is 0, or the smallest allowed value where 0 is not allowed"
+
+abbrev pub leastFrom : ℕ → ℕ → (ℕ → Bool) → ℕ
+leastFrom zero n t = n
+leastFrom (suc fuel) n t = cond (t n) n (leastFrom fuel (n + 1) t)
+
+-- the smallest number that the test takes, looked for below 256
+unfoldable pub least : (ℕ → Bool) → ℕ
+least t = leastFrom 256 0 t
+
+abbrev leastOf : List Field → List ℕ
+leastOf [] = []
+leastOf (f ∷ fs) = least (f .test) ∷ leastOf fs
+
+abbrev pub fresh : Row → List ℕ
+fresh r = leastOf (r .fields)
+
+-- ---- the row of a block's number; a number of no block has a row without fields
+
+abbrev noRow : Row
+noRow = record { number = 0; setName = 0; getName = 0; fields = []; reserved = 0 }
+
+abbrev pub rowIn : List Row → ℕ → Row
+rowIn [] k = noRow
+rowIn (r ∷ rs) k = cond (eqb k (r .number)) r (rowIn rs k)
+
+abbrev pub rowAt : ℕ → Row
+rowAt k = rowIn sheet k

@@ -1,0 +1,170 @@
+-- Sheet 01's table of blocks, row by row in its sequence. Above each row stands what 01 says; totals are derived (Rows, `total`).
+use mathlib.Core.Bool.{Bool}
+use mathlib.Core.List.{List, [], _∷_}
+use Prim.Native.Nat.{ℕ}
+use Rattle.wire.specs.Tests.{any, within, signedWithin, finite}
+use Rattle.sheet.specs.Names.{named}
+
+-- a field: its width in bytes, and the test of its number as it stands on the wire, where it is unsigned
+pub record Field : Type 0 where
+  pub width : ℕ
+  pub test : ℕ → Bool
+
+pub record Row : Type 0 where
+  pub number : ℕ
+  pub setName : ℕ
+  pub getName : ℕ
+  pub fields : List Field
+  pub reserved : ℕ
+
+-- "U = unsigned, S = signed, F = 32-bit float, with widths in bits."
+abbrev U8 : (ℕ → Bool) → Field
+U8 t = record { width = 1; test = t }
+
+abbrev U16 : (ℕ → Bool) → Field
+U16 t = record { width = 2; test = t }
+
+abbrev U32 : (ℕ → Bool) → Field
+U32 t = record { width = 4; test = t }
+
+abbrev S16 : (ℕ → Bool) → Field
+S16 t = record { width = 2; test = t }
+
+abbrev S32 : (ℕ → Bool) → Field
+S32 t = record { width = 4; test = t }
+
+-- "each must be finite"
+abbrev F : Field
+F = record { width = 4; test = finite }
+
+-- | 1 | mov | 30 | Speed U32 0..100000, uSpeed U8, Accel U16 1..65535, Decel U16 1..65535, AntiplaySpeed U32 0..100000, uAntiplaySpeed U8 | 10 |
+abbrev pub movRow : Row
+movRow =
+    record {
+      number = 1;
+      setName = named "smov";
+      getName = named "gmov";
+      fields =
+          U32 (within 0 100000)  -- Speed
+          ∷ U8 any  -- uSpeed
+          ∷ U16 (within 1 65535)  -- Accel
+          ∷ U16 (within 1 65535)  -- Decel
+          ∷ U32 (within 0 100000)  -- AntiplaySpeed
+          ∷ U8 any  -- uAntiplaySpeed
+          ∷ [];
+      reserved = 10;
+    }
+
+-- | 2 | eng | 34 | NomVoltage U16, NomCurrent U16 15..8000, NomSpeed U32 1..100000, uNomSpeed U8, EngineFlags U16, Antiplay S16,
+--                  MicrostepMode U8 1..9, StepsPerRev U16 1..65535 | 12 |
+abbrev pub engRow : Row
+engRow =
+    record {
+      number = 2;
+      setName = named "seng";
+      getName = named "geng";
+      fields =
+          U16 any  -- NomVoltage
+          ∷ U16 (within 15 8000)  -- NomCurrent
+          ∷ U32 (within 1 100000)  -- NomSpeed
+          ∷ U8 any  -- uNomSpeed
+          ∷ U16 any  -- EngineFlags
+          ∷ S16 any  -- Antiplay
+          ∷ U8 (within 1 9)  -- MicrostepMode
+          ∷ U16 (within 1 65535)  -- StepsPerRev
+          ∷ [];
+      reserved = 12;
+    }
+
+-- | 3 | pwr | 20 | HoldCurrent U8 0..100, CurrReductDelay U16, PowerOffDelay U16, CurrentSetTime U16, PowerFlags U8 | 6 |
+abbrev pub pwrRow : Row
+pwrRow =
+    record {
+      number = 3;
+      setName = named "spwr";
+      getName = named "gpwr";
+      fields =
+          U8 (within 0 100)  -- HoldCurrent
+          ∷ U16 any  -- CurrReductDelay
+          ∷ U16 any  -- PowerOffDelay
+          ∷ U16 any  -- CurrentSetTime
+          ∷ U8 any  -- PowerFlags
+          ∷ [];
+      reserved = 6;
+    }
+
+-- | 4 | eds | 26 | BorderFlags U8, EnderFlags U8, LeftBorder S32, uLeftBorder S16 -255..255, RightBorder S32, uRightBorder S16 -255..255 | 6 |
+abbrev pub edsRow : Row
+edsRow =
+    record {
+      number = 4;
+      setName = named "seds";
+      getName = named "geds";
+      fields =
+          U8 any  -- BorderFlags
+          ∷ U8 any  -- EnderFlags
+          ∷ S32 any  -- LeftBorder
+          ∷ S16 (signedWithin 255)  -- uLeftBorder
+          ∷ S32 any  -- RightBorder
+          ∷ S16 (signedWithin 255)  -- uRightBorder
+          ∷ [];
+      reserved = 6;
+    }
+
+-- | 5 | hom | 33 | FastHome U32 0..100000, uFastHome U8, SlowHome U32 0..100000, uSlowHome U8, HomeDelta S32, uHomeDelta S16 -255..255,
+--                  HomeFlags U16 | 9 |
+abbrev pub homRow : Row
+homRow =
+    record {
+      number = 5;
+      setName = named "shom";
+      getName = named "ghom";
+      fields =
+          U32 (within 0 100000)  -- FastHome
+          ∷ U8 any  -- uFastHome
+          ∷ U32 (within 0 100000)  -- SlowHome
+          ∷ U8 any  -- uSlowHome
+          ∷ S32 any  -- HomeDelta
+          ∷ S16 (signedWithin 255)  -- uHomeDelta
+          ∷ U16 any  -- HomeFlags
+          ∷ [];
+      reserved = 9;
+    }
+
+-- | 6 | brk | 25 | t1 U16, t2 U16, t3 U16, t4 U16, BrakeFlags U8 | 10 |
+abbrev pub brkRow : Row
+brkRow =
+    record {
+      number = 6;
+      setName = named "sbrk";
+      getName = named "gbrk";
+      fields =
+          U16 any  -- t1
+          ∷ U16 any  -- t2
+          ∷ U16 any  -- t3
+          ∷ U16 any  -- t4
+          ∷ U8 any  -- BrakeFlags
+          ∷ [];
+      reserved = 10;
+    }
+
+-- | 7 | pid | 48 | KpU U16, KiU U16, KdU U16, Kpf F, Kif F, Kdf F | 24 |
+abbrev pub pidRow : Row
+pidRow =
+    record {
+      number = 7;
+      setName = named "spid";
+      getName = named "gpid";
+      fields =
+          U16 any  -- KpU
+          ∷ U16 any  -- KiU
+          ∷ U16 any  -- KdU
+          ∷ F  -- Kpf
+          ∷ F  -- Kif
+          ∷ F  -- Kdf
+          ∷ [];
+      reserved = 24;
+    }
+
+abbrev pub sheet : List Row
+sheet = movRow ∷ engRow ∷ pwrRow ∷ edsRow ∷ homRow ∷ brkRow ∷ pidRow ∷ []

@@ -1,0 +1,8 @@
+// Sheet 01's table of blocks is a definition (specs/Sheet.antt); here is only what the code of each block is held against.
+
+// What is fixed with a block: its total length, its set name and its get name.
+pub struct Head {
+    pub total: usize,
+    pub set: u32,
+    pub get: u32,
+}

@@ -1,0 +1,6 @@
+pub mod Numbers
+pub mod Stores
+pub mod Laid
+pub mod Values
+pub mod Tests
+pub mod One

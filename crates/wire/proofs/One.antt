@@ -1,0 +1,75 @@
+-- Each public function's promise leaves one answer. Assumes nothing.
+use mathlib.Core.Path.{_≡_, sym, _∙_}
+use Rattle.promise.specs.Promise.{Leaves}
+use Rattle.wire.proofs.u8_at.Reads as u8-at
+use Rattle.wire.proofs.u16_at.Reads as u16-at
+use Rattle.wire.proofs.u32_at.Reads as u32-at
+use Rattle.wire.proofs.i16_at.Reads as i16-at
+use Rattle.wire.proofs.i32_at.Reads as i32-at
+use Rattle.wire.proofs.f32_at.Reads as f32-at
+use Rattle.wire.proofs.i16_of.Reads as i16-of
+use Rattle.wire.proofs.i32_of.Reads as i32-of
+use Rattle.wire.proofs.u16_of.Reads as u16-of
+use Rattle.wire.proofs.u32_of.Reads as u32-of
+use Rattle.wire.proofs.f32_of.Reads as f32-of
+use Rattle.wire.proofs.bits_of.Reads as bits-of
+use Rattle.wire.proofs.is_within.Reads as is-within
+use Rattle.wire.proofs.is_signed_within.Reads as is-signed-within
+use Rattle.wire.proofs.is_finite.Reads as is-finite
+use Rattle.wire.proofs.first_false.Reads as first-false
+use Rattle.wire.proofs.put.Reads as put
+use Rattle.wire.proofs.lay.Reads as lay
+
+pub u8-at-one : Leaves u8-at.Post (λ κs r s. r)
+u8-at-one κs a r r' s s' p q = p ∙ sym q
+
+pub u16-at-one : Leaves u16-at.Post (λ κs r s. r)
+u16-at-one κs a r r' s s' p q = p ∙ sym q
+
+pub u32-at-one : Leaves u32-at.Post (λ κs r s. r)
+u32-at-one κs a r r' s s' p q = p ∙ sym q
+
+pub i16-at-one : Leaves i16-at.Post (λ κs r s. r)
+i16-at-one κs a r r' s s' p q = p ∙ sym q
+
+pub i32-at-one : Leaves i32-at.Post (λ κs r s. r)
+i32-at-one κs a r r' s s' p q = p ∙ sym q
+
+pub f32-at-one : Leaves f32-at.Post (λ κs r s. r)
+f32-at-one κs a r r' s s' p q = p ∙ sym q
+
+pub i16-of-one : Leaves i16-of.Post (λ κs r s. r)
+i16-of-one κs a r r' s s' p q = p ∙ sym q
+
+pub i32-of-one : Leaves i32-of.Post (λ κs r s. r)
+i32-of-one κs a r r' s s' p q = p ∙ sym q
+
+pub u16-of-one : Leaves u16-of.Post (λ κs r s. r)
+u16-of-one κs a r r' s s' p q = p ∙ sym q
+
+pub u32-of-one : Leaves u32-of.Post (λ κs r s. r)
+u32-of-one κs a r r' s s' p q = p ∙ sym q
+
+pub f32-of-one : Leaves f32-of.Post (λ κs r s. r)
+f32-of-one κs a r r' s s' p q = p ∙ sym q
+
+pub bits-of-one : Leaves bits-of.Post (λ κs r s. r)
+bits-of-one κs a r r' s s' p q = p ∙ sym q
+
+pub is-within-one : Leaves is-within.Post (λ κs r s. r)
+is-within-one κs a r r' s s' p q = p ∙ sym q
+
+pub is-signed-within-one : Leaves is-signed-within.Post (λ κs r s. r)
+is-signed-within-one κs a r r' s s' p q = p ∙ sym q
+
+pub is-finite-one : Leaves is-finite.Post (λ κs r s. r)
+is-finite-one κs a r r' s s' p q = p ∙ sym q
+
+pub first-false-one : Leaves first-false.Post (λ κs r s. r)
+first-false-one κs a r r' s s' p q = p ∙ sym q
+
+pub put-one : Leaves put.Post (λ κs r s. s .0 .now)
+put-one κs a r r' s s' p q = p ∙ sym q
+
+pub lay-one : Leaves lay.Post (λ κs r s. s .0 .now)
+lay-one κs a r r' s s' p q = p ∙ sym q

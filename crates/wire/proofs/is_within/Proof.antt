@@ -1,0 +1,22 @@
+-- `wire::is_within` meets its contract. Assumes nothing.
+use Rattle.wire.specs.Tests.{within}
+use Rattle.wire.proofs.Tests.{and-yes, and-no}
+use borrow.Author.Tests.{le-leb, lt-leb}
+use borrow.Author.Needs.{needs}
+use Rattle.wire.proofs.is_within.Statement.{statement}
+use Rattle.wire.proofs.is_within.Tie as tie
+
+returns : tie.Need-returns
+unfolding within
+returns c = and-yes _ _ (le-leb _ _ (c .if1 .taken))
+
+returns-2 : tie.Need-returns-2
+unfolding within
+returns-2 c = and-no _ _ (lt-leb _ _ (c .if1 .left))
+
+pub is-within-spec : {M : Type 1} → statement M
+is-within-spec =
+    tie.close
+    (tie.spec
+    returns
+    returns-2)

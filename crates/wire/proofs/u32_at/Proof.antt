@@ -1,0 +1,22 @@
+-- `wire::u32_at` meets its contract. Assumes nothing.
+use native.Mathlib.Omega.{arith}
+use Rattle.wire.proofs.Numbers.{leAt-4}
+use borrow.Author.Needs.{needs}
+use Rattle.wire.proofs.u32_at.Statement.{statement}
+use Rattle.wire.proofs.u32_at.Tie as tie
+
+pub u32-at-spec : {M : Type 1} → statement M
+u32-at-spec =
+    tie.close
+    (tie.spec
+    (λ c κs. search needs)
+    (λ c κs. search needs)
+    (λ c κs. search needs)
+    (λ c κs. search needs)
+    (λ c. search needs)
+    (λ c. search needs)
+    (λ c. search needs)
+    (λ c. search needs)
+    (λ c. search needs)
+    (λ c. search needs)
+    (λ c. let a = c .before .before .before .before .before .args in omega (arith, leAt-4 (a .at) (a .s .now))))

@@ -1,0 +1,27 @@
+-- Tests of a number as it stands on the wire, where it is unsigned whatever its field's kind (01, "Blocks", the ranges).
+use mathlib.Core.Bool.{Bool, true, false, not, _&&_, _||_}
+use mathlib.Core.List.{List, [], _∷_}
+use lib.Dec.{leb, eqb}
+use Prim.Native.Nat.{ℕ, _+_, _-_, _/_, _%_}
+
+-- "A field without a range takes every value of its width"
+abbrev pub any : ℕ → Bool
+any n = true
+
+-- lo..hi
+unfoldable pub within : ℕ → ℕ → ℕ → Bool
+within lo hi n = leb lo n && leb n hi
+
+-- a signed 16-bit number in -k..k: up to k, or from 65536 - k on, which stands for -k (proofs, `signed-is`)
+unfoldable pub signedWithin : ℕ → ℕ → Bool
+signedWithin k n = leb n k || leb (65536 - k) n
+
+-- "each must be finite (exponent bits not all ones)"
+unfoldable pub finite : ℕ → Bool
+finite n = not (eqb (n % 2147483648 / 8388608) 255)
+
+-- the place, counted from n on, of the first test that failed, or 0
+unfoldable pub firstFalse : ℕ → List Bool → ℕ
+firstFalse n [] = 0
+firstFalse n (true ∷ ts) = firstFalse (n + 1) ts
+firstFalse n (false ∷ ts) = n

@@ -1,0 +1,205 @@
+// Numbers on the wire, low byte first: read and written at any place of a slice, laid one behind the other, tested. Every function answers
+// every input: a byte past the end reads as 0, and a store past the end is none.
+ghost use mathlib.Core.Path.{_≡_};
+ghost use Prim.Native.Nat.{_+_, _<_};
+ghost use lib.ListN.{getD};
+ghost use lib.Seq.{sets};
+ghost use lib.Ieee.{binary32, ofBits, toBits};
+ghost use mir.Syntax.{w16, w32};
+ghost use mir.Val.{toZ, ofZ};
+ghost use Rattle.wire.specs.Numbers.{leAt, leBytes};
+ghost use Rattle.wire.specs.Layout.{laid};
+ghost use Rattle.wire.specs.Tests.{within, signedWithin, finite, firstFalse};
+
+// ---- reading
+
+// The byte k places behind a place, wide.
+fn byte_at(s: &[u8], at: usize, k: usize) -> u32
+    ensures { λ r. ⌜ (r ≡ getD (now (s .entry)) (at + k) 0) × (r < 256) ⌝ }
+{
+    if s.len() <= at {
+        return 0;
+    }
+    if s.len() - at <= k {
+        return 0;
+    }
+    s[at + k] as u32
+}
+
+pub fn u8_at(s: &[u8], at: usize) -> u8
+    ensures { λ r. ⌜ r ≡ leAt 1 at (now (s .entry)) ⌝ }
+{
+    byte_at(s, at, 0) as u8
+}
+
+pub fn u16_at(s: &[u8], at: usize) -> u16
+    ensures { λ r. ⌜ r ≡ leAt 2 at (now (s .entry)) ⌝ }
+{
+    (byte_at(s, at, 0) + 256 * byte_at(s, at, 1)) as u16
+}
+
+pub fn u32_at(s: &[u8], at: usize) -> u32
+    ensures { λ r. ⌜ r ≡ leAt 4 at (now (s .entry)) ⌝ }
+{
+    byte_at(s, at, 0)
+        + 256 * (byte_at(s, at, 1) + 256 * (byte_at(s, at, 2) + 256 * byte_at(s, at, 3)))
+}
+
+pub fn i16_at(s: &[u8], at: usize) -> i16
+    ensures { λ r. ⌜ r ≡ toZ w16 (leAt 2 at (now (s .entry))) ⌝ }
+{
+    i16_of(u16_at(s, at))
+}
+
+pub fn i32_at(s: &[u8], at: usize) -> i32
+    ensures { λ r. ⌜ r ≡ toZ w32 (leAt 4 at (now (s .entry))) ⌝ }
+{
+    i32_of(u32_at(s, at))
+}
+
+pub fn f32_at(s: &[u8], at: usize) -> f32
+    ensures { λ r. ⌜ r ≡ ofBits binary32 (leAt 4 at (now (s .entry))) ⌝ }
+{
+    f32_of(u32_at(s, at))
+}
+
+// ---- signed numbers and floats, and the unsigned numbers that stand for them on the wire
+
+pub fn i16_of(n: u16) -> i16
+    ensures { λ r. ⌜ r ≡ toZ w16 n ⌝ }
+{
+    if n < 32768 {
+        n as i16
+    } else {
+        !((65535 - n) as i16)
+    }
+}
+
+pub fn i32_of(n: u32) -> i32
+    ensures { λ r. ⌜ r ≡ toZ w32 n ⌝ }
+{
+    if n < 2147483648 {
+        n as i32
+    } else {
+        !((4294967295 - n) as i32)
+    }
+}
+
+pub fn u16_of(z: i16) -> u16
+    ensures { λ r. ⌜ r ≡ ofZ w16 z ⌝ }
+{
+    if z >= 0 {
+        z as u16
+    } else {
+        65535 - ((!z) as u16)
+    }
+}
+
+pub fn u32_of(z: i32) -> u32
+    ensures { λ r. ⌜ r ≡ ofZ w32 z ⌝ }
+{
+    if z >= 0 {
+        z as u32
+    } else {
+        4294967295 - ((!z) as u32)
+    }
+}
+
+// `from_bits` and `to_bits` are undefined at a NaN, so it is tested for first. Every NaN pattern reads as the one NaN.
+pub fn f32_of(n: u32) -> f32
+    ensures { λ r. ⌜ r ≡ ofBits binary32 n ⌝ }
+{
+    if n % 2147483648 > 2139095040 {
+        0.0 / 0.0
+    } else {
+        f32::from_bits(n)
+    }
+}
+
+pub fn bits_of(x: f32) -> u32
+    ensures { λ r. ⌜ r ≡ toBits binary32 x ⌝ }
+{
+    if x != x { 2143289344 } else { f32::to_bits(x) }
+}
+
+// ---- tests of a number as it stands on the wire
+
+pub fn is_within(lo: u64, hi: u64, n: u64) -> bool
+    ensures { λ r. ⌜ r ≡ within lo hi n ⌝ }
+{
+    lo <= n && n <= hi
+}
+
+// A signed 16-bit number from -k to k.
+pub fn is_signed_within(k: u16, n: u64) -> bool
+    ensures { λ r. ⌜ r ≡ signedWithin k n ⌝ }
+{
+    let top = 65536 - k as u64;
+    n <= k as u64 || top <= n
+}
+
+// A 32-bit float whose exponent bits are not all ones.
+pub fn is_finite(n: u64) -> bool
+    ensures { λ r. ⌜ r ≡ finite n ⌝ }
+{
+    n % 2147483648 / 8388608 != 255
+}
+
+// The number, from 1, of the first test that failed, or 0.
+pub fn first_false(tests: &[bool]) -> usize
+    ensures { λ r. ⌜ r ≡ firstFalse 1 (now (tests .entry)) ⌝ }
+{
+    let mut k = 0;
+    while k < tests.len() {
+        let passed = tests[k];
+        k += 1;
+        if !passed {
+            return k;
+        }
+    }
+    0
+}
+
+// ---- writing
+
+// The w bytes of v from a place on: one writer for every width.
+pub fn put(out: &mut [u8], at: usize, w: usize, v: u64)
+    ensures { λ _. ⌜ now (out .exit) ≡ sets (now (out .entry)) at (leBytes w v) ⌝ }
+{
+    let mut p = at;
+    let mut left = w;
+    let mut x = v;
+    while 0 < left {
+        if out.len() <= p {
+            return;
+        }
+        out[p] = (x % 256) as u8;
+        x = x / 256;
+        p += 1;
+        left -= 1;
+    }
+}
+
+fn number_at(vs: &[u64], k: usize) -> u64
+    ensures { λ r. ⌜ r ≡ getD (now (vs .entry)) k 0 ⌝ }
+{
+    if k < vs.len() { vs[k] } else { 0 }
+}
+
+// Numbers one behind the other from the front on, each in its width; a width without a number is zeros.
+pub fn lay(out: &mut [u8], ws: &[usize], vs: &[u64])
+    ensures { λ _. ⌜ now (out .exit) ≡ sets (now (out .entry)) 0 (laid (now (ws .entry)) (now (vs .entry))) ⌝ }
+{
+    let mut at = 0;
+    let mut k = 0;
+    while k < ws.len() {
+        let w = ws[k];
+        let v = number_at(vs, k);
+        put(out, at, w, v);
+        if out.len() - at <= w {
+            return;
+        }
+        at += w;
+        k += 1;
+    }
+}
