@@ -1,9 +1,0 @@
-pub mod MovCodec
-pub mod EngCodec
-pub mod PwrCodec
-pub mod EdsCodec
-pub mod HomCodec
-pub mod BrkCodec
-pub mod PidCodec
-pub mod Keep
-pub mod One

@@ -1,0 +1,23 @@
+-- Block brk's own maps, there and back (sheet, `Codec`). Assumes nothing.
+use mathlib.Core.Path.{refl}
+use Prim.Native.Nat.{_<_, _^_}
+use Rattle.wire.proofs.Laid.{room-listed}
+use Rattle.sheet.specs.Sheet.{brkRow}
+use Rattle.sheet.specs.Rows.{widths}
+use Rattle.sheet.proofs.Codec.{Codec, always}
+use Rattle.brk.specs.declared.Brk.{Brk}
+use Rattle.brk.specs.Brk.{brkOf, brkNumbers}
+
+-- what the types of its fields say of a block
+pub record BrkHeld (b : Brk) : Type 0 where
+  pub t1 : b .t1 < 2 ^ 16
+  pub t2 : b .t2 < 2 ^ 16
+  pub t3 : b .t3 < 2 ^ 16
+  pub t4 : b .t4 < 2 ^ 16
+  pub brakeFlags : b .brakeFlags < 2 ^ 8
+
+pub brk-codec : Codec brkRow Brk brkOf brkNumbers BrkHeld
+brk-codec =
+    always brkRow Brk brkOf brkNumbers BrkHeld (room-listed (widths brkRow))
+    (λ b h. (h .t1, (h .t2, (h .t3, (h .t4, (h .brakeFlags, tt))))))
+    (λ b h. refl)

@@ -1,0 +1,21 @@
+-- Block 4, eds: the record that numbers stand for, and a record's numbers.
+use mathlib.Core.List.{List, [], _∷_}
+use Prim.Native.Nat.{ℕ}
+use lib.ListN.{getD}
+use mir.Syntax.{w16, w32}
+use mir.Val.{toZ, ofZ}
+use Rattle.eds.specs.declared.Eds.{Eds}
+
+abbrev pub edsOf : List ℕ → Eds
+edsOf ns =
+    record {
+      borderFlags = getD ns 0 0;
+      enderFlags = getD ns 1 0;
+      leftBorder = toZ w32 (getD ns 2 0);
+      uLeftBorder = toZ w16 (getD ns 3 0);
+      rightBorder = toZ w32 (getD ns 4 0);
+      uRightBorder = toZ w16 (getD ns 5 0);
+    }
+
+abbrev pub edsNumbers : Eds → List ℕ
+edsNumbers b = b .borderFlags ∷ b .enderFlags ∷ ofZ w32 (b .leftBorder) ∷ ofZ w16 (b .uLeftBorder) ∷ ofZ w32 (b .rightBorder) ∷ ofZ w16 (b .uRightBorder) ∷ []

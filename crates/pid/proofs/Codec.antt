@@ -1,0 +1,46 @@
+-- Block pid's own maps, there and back (sheet, `Codec`). Assumes nothing.
+use mathlib.Core.Path.{_≡_}
+use mathlib.Core.List.{List}
+use Prim.Native.Nat.{ℕ, _<_, _^_}
+use lib.Dec.{T, lit<}
+use lib.ListN.{getD}
+use lib.Ieee.{binary32, fits}
+use lib.Ieee.Bits.{ofBits-toBits, toBits-lt}
+use Rattle.wire.specs.Layout.{Room}
+use Rattle.wire.specs.Tests.{firstFalse}
+use Rattle.wire.proofs.Laid.{room-listed, room-at}
+use Rattle.wire.proofs.Tests.{all-of}
+use Rattle.wire.proofs.Values.{bits-back, bits-judged}
+use Rattle.sheet.specs.Sheet.{pidRow}
+use Rattle.sheet.specs.Rows.{widths, firstBad, verdicts}
+use Rattle.sheet.proofs.Codec.{Codec}
+use Rattle.pid.specs.declared.Pid.{Pid}
+use Rattle.pid.specs.Pid.{pidOf, pidNumbers}
+
+-- what the types of its fields say of a block
+pub record PidHeld (b : Pid) : Type 0 where
+  pub kpU : b .kpU < 2 ^ 16
+  pub kiU : b .kiU < 2 ^ 16
+  pub kdU : b .kdU < 2 ^ 16
+  pub kpf : T (fits binary32 (b .kpf))
+  pub kif : T (fits binary32 (b .kif))
+  pub kdf : T (fits binary32 (b .kdf))
+
+pid-back : (ns : List ℕ) → Room (widths pidRow) ns → firstBad pidRow ns ≡ 0 → pidNumbers (pidOf ns) ≡ ns
+pid-back ns h e =
+    let a = all-of 1 (verdicts (pidRow .fields) 0 ns) (lit< tt) e in
+    rw (bits-back (getD ns 3 0) (room-at (widths pidRow) ns 3 h) (a .1 .1 .1 .0), bits-back (getD ns 4 0) (room-at (widths pidRow) ns 4 h) (a .1 .1 .1 .1 .0), bits-back (getD ns 5 0) (room-at (widths pidRow) ns 5 h) (a .1 .1 .1 .1 .1 .0))
+    (room-listed (widths pidRow) ns h)
+
+pid-judged : (ns : List ℕ) → Room (widths pidRow) ns → firstBad pidRow (pidNumbers (pidOf ns)) ≡ firstBad pidRow ns
+pid-judged ns h =
+    rw (bits-judged (getD ns 3 0) (room-at (widths pidRow) ns 3 h), bits-judged (getD ns 4 0) (room-at (widths pidRow) ns 4 h), bits-judged (getD ns 5 0) (room-at (widths pidRow) ns 5 h))
+
+pub pid-codec : Codec pidRow Pid pidOf pidNumbers PidHeld
+pid-codec =
+    record {
+      back = pid-back;
+      judged = pid-judged;
+      room = λ b h. (h .kpU, (h .kiU, (h .kdU, (toBits-lt binary32 (b .kpf) (h .kpf), (toBits-lt binary32 (b .kif) (h .kif), (toBits-lt binary32 (b .kdf) (h .kdf), tt))))));
+      forth = λ b h. rw (ofBits-toBits binary32 (b .kpf) (h .kpf), ofBits-toBits binary32 (b .kif) (h .kif), ofBits-toBits binary32 (b .kdf) (h .kdf));
+    }

@@ -1,0 +1,98 @@
+// Block 7, pid.
+use sheet::Head;
+ghost use mathlib.Core.Path.{_≡_};
+ghost use lib.Seq.{sets};
+ghost use Rattle.sheet.specs.Sheet.{pidRow};
+ghost use Rattle.sheet.specs.Rows.{headOf, numbersIn, dataOf, firstBad, fresh};
+ghost use Rattle.pid.specs.Pid.{pidOf, pidNumbers};
+
+pub struct Pid {
+    pub kpU: u16,
+    pub kiU: u16,
+    pub kdU: u16,
+    pub kpf: f32,
+    pub kif: f32,
+    pub kdf: f32,
+}
+
+impl Pid {
+    pub const TOTAL: usize = 48;
+
+    pub const SET: u32 = 0x64697073;
+
+    pub const GET: u32 = 0x64697067;
+
+    // The three constants, held against the sheet's row.
+    pub fn head() -> Head
+        ensures { λ r. ⌜ r ≡ headOf pidRow ⌝ }
+    {
+        Head {
+            total: Pid::TOTAL,
+            set: Pid::SET,
+            get: Pid::GET,
+        }
+    }
+
+    pub fn decode(part: &[u8]) -> Pid
+        ensures { λ r. ⌜ r ≡ pidOf (numbersIn pidRow (now (part .entry))) ⌝ }
+    {
+        Pid {
+            kpU: wire::u16_at(part, 0),
+            kiU: wire::u16_at(part, 2),
+            kdU: wire::u16_at(part, 4),
+            kpf: wire::f32_at(part, 6),
+            kif: wire::f32_at(part, 10),
+            kdf: wire::f32_at(part, 14),
+        }
+    }
+
+    // The numbers of the fields as they stand on the wire.
+    pub fn numbers(self) -> [u64; 6]
+        ensures { λ r. ⌜ r ≡ pidNumbers self ⌝ }
+    {
+        [
+            self.kpU as u64,
+            self.kiU as u64,
+            self.kdU as u64,
+            wire::bits_of(self.kpf) as u64,
+            wire::bits_of(self.kif) as u64,
+            wire::bits_of(self.kdf) as u64,
+        ]
+    }
+
+    pub fn encode(self, out: &mut [u8])
+        ensures { λ _. ⌜ now (out .exit) ≡ sets (now (out .entry)) 0 (dataOf pidRow (pidNumbers self)) ⌝ }
+    {
+        let ns = self.numbers();
+        wire::lay(out, &[2, 2, 2, 4, 4, 4, 24], &ns)
+    }
+
+    pub fn first_bad(self) -> usize
+        ensures { λ r. ⌜ r ≡ firstBad pidRow (pidNumbers self) ⌝ }
+    {
+        let ns = self.numbers();
+        wire::first_false(
+            &[
+                true,
+                true,
+                true,
+                wire::is_finite(ns[3]),
+                wire::is_finite(ns[4]),
+                wire::is_finite(ns[5]),
+            ],
+        )
+    }
+
+    pub fn fresh() -> Pid
+        ensures { λ r. ⌜ r ≡ pidOf (fresh pidRow) ⌝ }
+    {
+        Pid {
+            kpU: 0,
+            kiU: 0,
+            kdU: 0,
+            kpf: 0.0,
+            kif: 0.0,
+            kdf: 0.0,
+        }
+    }
+}

@@ -1,0 +1,21 @@
+-- `pwr::Pwr::first_bad` meets its contract: what the calls say of their results, put together. Assumes nothing.
+use mathlib.Core.Path.{ap, _∙_}
+use borrow.Author.Needs.{needs}
+use Rattle.sheet.specs.Sheet.{pwrRow}
+use Rattle.sheet.specs.Rows.{firstBad}
+use Rattle.pwr.proofs.Pwr.first_bad.Statement.{statement}
+use Rattle.pwr.proofs.Pwr.first_bad.Tie as tie
+
+returns : tie.Need-returns
+returns c = c .first-false .ensures ∙ rw (c .before .before .is-within .ensures) (ap (firstBad pwrRow) (c .before .before .before .numbers .ensures))
+
+pub first-bad-spec : {M : Type 1} → statement M
+first-bad-spec =
+    tie.close
+    (tie.spec
+    (λ c κs. search needs)
+    (λ c. search needs)
+    (λ c κs. search needs)
+    (λ c. search needs)
+    (λ c κs. search needs)
+    returns)
