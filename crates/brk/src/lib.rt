@@ -6,6 +6,7 @@ ghost use Rattle.sheet.specs.Sheet.{brkRow};
 ghost use Rattle.sheet.specs.Rows.{headOf, numbersIn, dataOf, firstBad, fresh};
 ghost use Rattle.brk.specs.Brk.{brkOf, brkNumbers};
 
+#[repr(C)]
 pub struct Brk {
     pub t1: u16,
     pub t2: u16,

@@ -6,6 +6,7 @@ ghost use Rattle.sheet.specs.Sheet.{edsRow};
 ghost use Rattle.sheet.specs.Rows.{headOf, numbersIn, dataOf, firstBad, fresh};
 ghost use Rattle.eds.specs.Eds.{edsOf, edsNumbers};
 
+#[repr(C)]
 pub struct Eds {
     pub borderFlags: u8,
     pub enderFlags: u8,

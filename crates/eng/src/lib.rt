@@ -6,6 +6,7 @@ ghost use Rattle.sheet.specs.Sheet.{engRow};
 ghost use Rattle.sheet.specs.Rows.{headOf, numbersIn, dataOf, firstBad, fresh};
 ghost use Rattle.eng.specs.Eng.{engOf, engNumbers};
 
+#[repr(C)]
 pub struct Eng {
     pub nomVoltage: u16,
     pub nomCurrent: u16,

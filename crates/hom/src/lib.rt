@@ -6,6 +6,7 @@ ghost use Rattle.sheet.specs.Sheet.{homRow};
 ghost use Rattle.sheet.specs.Rows.{headOf, numbersIn, dataOf, firstBad, fresh};
 ghost use Rattle.hom.specs.Hom.{homOf, homNumbers};
 
+#[repr(C)]
 pub struct Hom {
     pub fastHome: u32,
     pub uFastHome: u8,

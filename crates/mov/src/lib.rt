@@ -6,6 +6,7 @@ ghost use Rattle.sheet.specs.Sheet.{movRow};
 ghost use Rattle.sheet.specs.Rows.{headOf, numbersIn, dataOf, firstBad, fresh};
 ghost use Rattle.mov.specs.Mov.{movOf, movNumbers};
 
+#[repr(C)]
 pub struct Mov {
     pub speed: u32,
     pub uSpeed: u8,

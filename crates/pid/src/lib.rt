@@ -6,6 +6,7 @@ ghost use Rattle.sheet.specs.Sheet.{pidRow};
 ghost use Rattle.sheet.specs.Rows.{headOf, numbersIn, dataOf, firstBad, fresh};
 ghost use Rattle.pid.specs.Pid.{pidOf, pidNumbers};
 
+#[repr(C)]
 pub struct Pid {
     pub kpU: u16,
     pub kiU: u16,

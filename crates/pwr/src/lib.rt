@@ -6,6 +6,7 @@ ghost use Rattle.sheet.specs.Sheet.{pwrRow};
 ghost use Rattle.sheet.specs.Rows.{headOf, numbersIn, dataOf, firstBad, fresh};
 ghost use Rattle.pwr.specs.Pwr.{pwrOf, pwrNumbers};
 
+#[repr(C)]
 pub struct Pwr {
     pub holdCurrent: u8,
     pub currReductDelay: u16,

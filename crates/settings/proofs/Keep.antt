@@ -3,7 +3,7 @@ use mathlib.Core.Path.{_≡_, refl, sym, ap, _∙_, subst}
 use mathlib.Core.Bool.{Bool, true, false, cond}
 use mathlib.Core.List.{List, [], _∷_}
 use Prim.Native.Nat.{ℕ, _≤_, _<_}
-use lib.Dec.{eqb}
+use lib.Dec.{T, eqb}
 use lib.Ieee.{toBits, ofBits}
 use lib.ListN.{length, getD}
 use borrow.Author.Tests.{eqb-true, eqb-false, ne-eqb}
@@ -12,9 +12,8 @@ use Rattle.wire.specs.Tests.{within, signedWithin, finite, firstFalse}
 use Rattle.sheet.specs.Sheet.{Row, movRow, engRow, pwrRow, edsRow, homRow, brkRow, pidRow}
 use Rattle.sheet.specs.Rows.{rowAt, rowIn, widths, numbersIn, dataOf, firstBad, canonical, least}
 use Rattle.sheet.proofs.Laws.{sent-again, numbers-fit}
-use Rattle.sheet.proofs.Codec.{Codec}
 use Rattle.settings.specs.declared.Settings.{Settings}
-use Rattle.settings.specs.Settings.{numbersAt, storeAt, dataAt, putAt, badAt, freshSettings, Good}
+use Rattle.settings.specs.Settings.{numbersAt, storeAt, dataAt, putAt, badAt, allGood, freshSettings, Good}
 use Rattle.mov.specs.Mov.{movOf, movNumbers}
 use Rattle.eng.specs.Eng.{engOf, engNumbers}
 use Rattle.pwr.specs.Pwr.{pwrOf, pwrNumbers}
@@ -52,21 +51,30 @@ store-other s j k ns ne =
     (other-step j k 7 ne _ pidNumbers (pidOf ns) (s .pid) _ _
     refl))))))
 
--- same: block k itself, whose row is r where the number fits
-same-step : (k i : ℕ) (r : Row) (rs : List Row) → (X : Type 0) (of : List ℕ → X) (to : X → List ℕ) (Held : X → Type 0) → Codec r X of to Held → r .number ≡ i
-    → (old : X) (u ns : List ℕ)
-    → (Room (widths (rowIn rs k)) ns → firstBad (rowIn rs k) ns ≡ 0 → u ≡ ns)
-    → Room (widths (rowIn (r ∷ rs) k)) ns → firstBad (rowIn (r ∷ rs) k) ns ≡ 0
-    → cond (eqb k i) (to (cond (eqb k i) (of ns) old)) u ≡ ns
-same-step k i r rs X of to Held c p old u ns e =
-    subst
-    (λ (n : ℕ). Room (widths (cond (eqb k n) r (rowIn rs k))) ns → firstBad (cond (eqb k n) r (rowIn rs k)) ns ≡ 0 → cond (eqb k i) (to (cond (eqb k i) (of ns) old)) u ≡ ns)
-    (sym p)
-    (go (eqb k i))
+-- same: block k itself, whose row is r where the number fits, holds what was made of the numbers
+same-step : (P : Row → List ℕ → Type 0) (k i : ℕ) (r : Row) (rs : List Row) → (X : Type 0) (of : List ℕ → X) (to : X → List ℕ) → r .number ≡ i
+    → (old : X) (u ns : List ℕ) → P r (to (of ns)) → P (rowIn rs k) u
+    → P (rowIn (r ∷ rs) k) (cond (eqb k i) (to (cond (eqb k i) (of ns) old)) u)
+same-step P k i r rs X of to p old u ns h e = subst (λ (n : ℕ). P (cond (eqb k n) r (rowIn rs k)) (cond (eqb k i) (to (cond (eqb k i) (of ns) old)) u)) (sym p) (go (eqb k i))
   where
-    go : (b : Bool) → Room (widths (cond b r (rowIn rs k))) ns → firstBad (cond b r (rowIn rs k)) ns ≡ 0 → cond b (to (cond b (of ns) old)) u ≡ ns
-    go true m z = c .back ns m z
-    go false m z = e m z
+    go : (b : Bool) → P (cond b r (rowIn rs k)) (cond b (to (cond b (of ns) old)) u)
+    go true = h
+    go false = e
+
+-- what holds of each block made of the numbers holds of block k once they are stored in it
+module _ (P : Row → List ℕ → Type 0) (s : Settings) (k : ℕ) (ns : List ℕ) where
+  stored : P movRow (movNumbers (movOf ns)) → P engRow (engNumbers (engOf ns)) → P pwrRow (pwrNumbers (pwrOf ns)) → P edsRow (edsNumbers (edsOf ns))
+      → P homRow (homNumbers (homOf ns)) → P brkRow (brkNumbers (brkOf ns)) → P pidRow (pidNumbers (pidOf ns)) → P (rowIn [] k) []
+      → P (rowAt k) (numbersAt (storeAt s k ns) k)
+  stored mov eng pwr eds hom brk pid none =
+      same-step P k 1 movRow (engRow ∷ pwrRow ∷ edsRow ∷ homRow ∷ brkRow ∷ pidRow ∷ []) _ movOf movNumbers refl (s .mov) _ ns mov
+      (same-step P k 2 engRow (pwrRow ∷ edsRow ∷ homRow ∷ brkRow ∷ pidRow ∷ []) _ engOf engNumbers refl (s .eng) _ ns eng
+      (same-step P k 3 pwrRow (edsRow ∷ homRow ∷ brkRow ∷ pidRow ∷ []) _ pwrOf pwrNumbers refl (s .pwr) _ ns pwr
+      (same-step P k 4 edsRow (homRow ∷ brkRow ∷ pidRow ∷ []) _ edsOf edsNumbers refl (s .eds) _ ns eds
+      (same-step P k 5 homRow (brkRow ∷ pidRow ∷ []) _ homOf homNumbers refl (s .hom) _ ns hom
+      (same-step P k 6 brkRow (pidRow ∷ []) _ brkOf brkNumbers refl (s .brk) _ ns brk
+      (same-step P k 7 pidRow [] _ pidOf pidNumbers refl (s .pid) _ ns pid
+      none))))))
 
 none : (ns : List ℕ) → Room [] ns → [] ≡ ns
 none [] h = refl
@@ -74,14 +82,16 @@ none (n ∷ ns) h = absurd h
 
 pub store-same : (s : Settings) (k : ℕ) (ns : List ℕ) → Room (widths (rowAt k)) ns → firstBad (rowAt k) ns ≡ 0 → numbersAt (storeAt s k ns) k ≡ ns
 store-same s k ns =
-    same-step k 1 movRow (engRow ∷ pwrRow ∷ edsRow ∷ homRow ∷ brkRow ∷ pidRow ∷ []) _ movOf movNumbers _ mov-codec refl (s .mov) _ ns
-    (same-step k 2 engRow (pwrRow ∷ edsRow ∷ homRow ∷ brkRow ∷ pidRow ∷ []) _ engOf engNumbers _ eng-codec refl (s .eng) _ ns
-    (same-step k 3 pwrRow (edsRow ∷ homRow ∷ brkRow ∷ pidRow ∷ []) _ pwrOf pwrNumbers _ pwr-codec refl (s .pwr) _ ns
-    (same-step k 4 edsRow (homRow ∷ brkRow ∷ pidRow ∷ []) _ edsOf edsNumbers _ eds-codec refl (s .eds) _ ns
-    (same-step k 5 homRow (brkRow ∷ pidRow ∷ []) _ homOf homNumbers _ hom-codec refl (s .hom) _ ns
-    (same-step k 6 brkRow (pidRow ∷ []) _ brkOf brkNumbers _ brk-codec refl (s .brk) _ ns
-    (same-step k 7 pidRow [] _ pidOf pidNumbers _ pid-codec refl (s .pid) _ ns
-    (λ m _. none ns m)))))))
+    stored (λ (r : Row) (x : List ℕ). Room (widths r) ns → firstBad r ns ≡ 0 → x ≡ ns) s k ns
+    (mov-codec .back ns) (eng-codec .back ns) (pwr-codec .back ns) (eds-codec .back ns) (hom-codec .back ns) (brk-codec .back ns) (pid-codec .back ns)
+    (λ m _. none ns m)
+
+-- the tests say of what is stored what they say of the numbers
+pub store-judged : (s : Settings) (k : ℕ) (ns : List ℕ) → Room (widths (rowAt k)) ns → badAt (storeAt s k ns) k ≡ firstBad (rowAt k) ns
+store-judged s k ns =
+    stored (λ (r : Row) (x : List ℕ). Room (widths r) ns → firstBad r x ≡ firstBad r ns) s k ns
+    (mov-codec .judged ns) (eng-codec .judged ns) (pwr-codec .judged ns) (eds-codec .judged ns) (hom-codec .judged ns) (brk-codec .judged ns) (pid-codec .judged ns)
+    (λ m. ap (firstBad (rowIn [] k)) (none ns m))
 
 -- ---- a get after a set
 
@@ -105,18 +115,54 @@ good-put s k d b z g j = go (eqb j k) refl
         subst (λ (n : ℕ). badAt (putAt s k d) n ≡ 0) (sym e) (ap (firstBad (rowAt k)) (store-same s k (numbersIn (rowAt k) d) (numbers-fit (rowAt k) d b) z) ∙ z)
     go false p = ap (firstBad (rowAt j)) (store-other s j k (numbersIn (rowAt k) d) (eqb-false j k p)) ∙ g j
 
-fresh-step : (r q : Row) (n u : List ℕ) (b : Bool) → firstBad r n ≡ 0 → firstBad q u ≡ 0 → firstBad (cond b r q) (cond b n u) ≡ 0
-fresh-step r q n u true e f = e
-fresh-step r q n u false e f = f
+pub bad-put : (s : Settings) (k : ℕ) (d : List ℕ) → ((i : ℕ) → getD d i 0 < 256) → badAt (putAt s k d) k ≡ firstBad (rowAt k) (numbersIn (rowAt k) d)
+bad-put s k d b = store-judged s k (numbersIn (rowAt k) d) (numbers-fit (rowAt k) d b)
+
+each-step : (P : Row → List ℕ → Type 0) (b : Bool) (r q : Row) (x u : List ℕ) → P r x → P q u → P (cond b r q) (cond b x u)
+each-step P true r q x u e f = e
+each-step P false r q x u e f = f
+
+-- what holds of each block holds of block k
+module _ (P : Row → List ℕ → Type 0) (s : Settings) (k : ℕ) where
+  each : P movRow (movNumbers (s .mov)) → P engRow (engNumbers (s .eng)) → P pwrRow (pwrNumbers (s .pwr)) → P edsRow (edsNumbers (s .eds))
+      → P homRow (homNumbers (s .hom)) → P brkRow (brkNumbers (s .brk)) → P pidRow (pidNumbers (s .pid)) → P (rowIn [] k) []
+      → P (rowAt k) (numbersAt s k)
+  each mov eng pwr eds hom brk pid none =
+      each-step P (eqb k 1) movRow _ (movNumbers (s .mov)) _ mov
+      (each-step P (eqb k 2) engRow _ (engNumbers (s .eng)) _ eng
+      (each-step P (eqb k 3) pwrRow _ (pwrNumbers (s .pwr)) _ pwr
+      (each-step P (eqb k 4) edsRow _ (edsNumbers (s .eds)) _ eds
+      (each-step P (eqb k 5) homRow _ (homNumbers (s .hom)) _ hom
+      (each-step P (eqb k 6) brkRow _ (brkNumbers (s .brk)) _ brk
+      (each-step P (eqb k 7) pidRow _ (pidNumbers (s .pid)) _ pid
+      none))))))
 
 pub good-fresh : Good freshSettings
 unfolding least within signedWithin finite toBits ofBits firstFalse
-good-fresh k =
-    fresh-step movRow _ (movNumbers (freshSettings .mov)) _ (eqb k 1) refl
-    (fresh-step engRow _ (engNumbers (freshSettings .eng)) _ (eqb k 2) refl
-    (fresh-step pwrRow _ (pwrNumbers (freshSettings .pwr)) _ (eqb k 3) refl
-    (fresh-step edsRow _ (edsNumbers (freshSettings .eds)) _ (eqb k 4) refl
-    (fresh-step homRow _ (homNumbers (freshSettings .hom)) _ (eqb k 5) refl
-    (fresh-step brkRow _ (brkNumbers (freshSettings .brk)) _ (eqb k 6) refl
-    (fresh-step pidRow _ (pidNumbers (freshSettings .pid)) _ (eqb k 7) refl
-    refl))))))
+good-fresh k = each (λ (r : Row) (x : List ℕ). firstBad r x ≡ 0) freshSettings k refl refl refl refl refl refl refl refl
+
+-- ---- the test over the sheet
+
+both : (n : ℕ) (b : Bool) → cond (eqb n 0) b false ≡ true → (n ≡ 0) × (b ≡ true)
+both n b h = go (eqb n 0) refl h
+  where
+    go : (y : Bool) → eqb n 0 ≡ y → cond y b false ≡ true → (n ≡ 0) × (b ≡ true)
+    go true e k = (eqb-true n 0 e, k)
+    go false e k = absurd (subst T (sym k) tt)
+
+-- where it passes, every block is in its ranges
+pub all-good : (s : Settings) → allGood s ≡ true → Good s
+unfolding allGood firstFalse
+all-good s h k =
+    let mov = both (badAt s 1) _ h in
+    let eng = both (badAt s 2) _ (mov .1) in
+    let pwr = both (badAt s 3) _ (eng .1) in
+    let eds = both (badAt s 4) _ (pwr .1) in
+    let hom = both (badAt s 5) _ (eds .1) in
+    let brk = both (badAt s 6) _ (hom .1) in
+    let pid = both (badAt s 7) _ (brk .1) in
+    each (λ (r : Row) (x : List ℕ). firstBad r x ≡ 0) s k (mov .0) (eng .0) (pwr .0) (eds .0) (hom .0) (brk .0) (pid .0) refl
+
+pub good-all : (s : Settings) → Good s → allGood s ≡ true
+unfolding allGood
+good-all s g = rw (g 1, g 2, g 3, g 4, g 5, g 6, g 7)

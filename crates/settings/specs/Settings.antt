@@ -1,10 +1,10 @@
 -- The settings by block number.
-use mathlib.Core.Bool.{cond}
-use mathlib.Core.List.{List, []}
+use mathlib.Core.Bool.{Bool, true, false, cond}
+use mathlib.Core.List.{List, [], _∷_}
 use mathlib.Core.Path.{_≡_}
 use Prim.Native.Nat.{ℕ}
 use lib.Dec.{eqb}
-use Rattle.sheet.specs.Sheet.{movRow, engRow, pwrRow, edsRow, homRow, brkRow, pidRow}
+use Rattle.sheet.specs.Sheet.{Row, sheet, movRow, engRow, pwrRow, edsRow, homRow, brkRow, pidRow}
 use Rattle.sheet.specs.Rows.{rowAt, numbersIn, dataOf, firstBad, fresh}
 use Rattle.settings.specs.declared.Settings.{Settings}
 use Rattle.mov.specs.Mov.{movOf, movNumbers}
@@ -55,6 +55,14 @@ badAt s k = firstBad (rowAt k) (numbersAt s k)
 -- "every field lies in its range, the floats are finite"
 abbrev pub Good : Settings → Type 0
 Good s = (k : ℕ) → badAt s k ≡ 0
+
+abbrev goodIn : List Row → Settings → Bool
+goodIn [] s = true
+goodIn (r ∷ rs) s = cond (eqb (badAt s (r .number)) 0) (goodIn rs s) false
+
+-- the same as a test, over the sheet
+unfoldable pub allGood : Settings → Bool
+allGood s = goodIn sheet s
 
 -- "On a fresh board every field is 0, or the smallest allowed value"
 abbrev pub freshSettings : Settings

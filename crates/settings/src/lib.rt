@@ -8,8 +8,9 @@ use pid::Pid;
 use pwr::Pwr;
 ghost use mathlib.Core.Path.{_≡_};
 ghost use lib.Seq.{sets};
-ghost use Rattle.settings.specs.Settings.{dataAt, putAt, badAt, freshSettings};
+ghost use Rattle.settings.specs.Settings.{dataAt, putAt, badAt, allGood, freshSettings};
 
+#[repr(C)]
 pub struct Settings {
     pub mov: Mov,
     pub eng: Eng,
@@ -150,5 +151,37 @@ impl Settings {
             return x.first_bad();
         }
         0
+    }
+
+    // Whether every field of every block lies in its range.
+    pub fn all_good(self) -> bool
+        ensures { λ r. ⌜ r ≡ allGood self ⌝ }
+    {
+        let mov = self.mov;
+        if mov.first_bad() != 0 {
+            return false;
+        }
+        let eng = self.eng;
+        if eng.first_bad() != 0 {
+            return false;
+        }
+        let pwr = self.pwr;
+        if pwr.first_bad() != 0 {
+            return false;
+        }
+        let eds = self.eds;
+        if eds.first_bad() != 0 {
+            return false;
+        }
+        let hom = self.hom;
+        if hom.first_bad() != 0 {
+            return false;
+        }
+        let brk = self.brk;
+        if brk.first_bad() != 0 {
+            return false;
+        }
+        let pid = self.pid;
+        pid.first_bad() == 0
     }
 }

@@ -19,6 +19,7 @@ use Rattle.wire.proofs.is_finite.Reads as is-finite
 use Rattle.wire.proofs.first_false.Reads as first-false
 use Rattle.wire.proofs.put.Reads as put
 use Rattle.wire.proofs.lay.Reads as lay
+use Rattle.wire.proofs.copy.Reads as copy
 
 pub u8-at-one : Leaves u8-at.Post (λ κs r s. r)
 u8-at-one κs a r r' s s' p q = p ∙ sym q
@@ -73,3 +74,6 @@ put-one κs a r r' s s' p q = p ∙ sym q
 
 pub lay-one : Leaves lay.Post (λ κs r s. s .0 .now)
 lay-one κs a r r' s s' p q = p ∙ sym q
+
+pub copy-one : Leaves copy.Post (λ κs r s. s .0 .now)
+copy-one κs a r r' s s' p q = p ∙ sym q

@@ -6,7 +6,7 @@ use native.Mathlib.Nat.{add-zero, add-suc, suc-add, lt-irrefl, le-of-eq}
 use native.Mathlib.Numerals.{add-one, sub-one}
 use native.Mathlib.Omega.{arith}
 use lib.ListN.{length, getD, take, drop, set, length-drop, drop-of-length-le, take-append-drop}
-use lib.Seq.{sets, sets-eq, set-out, getD-set-other, take-set-le, drop-set-add, take-all, drop-drop, length-take-le}
+use lib.Seq.{sets, sets-eq, set-out, getD-set-other, take-set-le, drop-set-add, drop-cons, take-all, drop-drop, length-take-le}
 use borrow.Rule.Slice.PartMut.{midOf, putMid}
 use Rattle.wire.specs.Numbers.{leAt, leBytes}
 use Rattle.wire.proofs.Numbers.{length-leBytes, leAt-append, leAt-leBytes, leAt-same, leBytes-leAt}
@@ -25,6 +25,13 @@ pub put-step : (s : List ℕ) (p n x : ℕ) → 0 < n → sets s p (leBytes n x)
 unfolding leBytes
 put-step s p zero x h = absurd (lt-irrefl 0 h)
 put-step s p (suc n) x h = rw (sub-one, add-one)
+
+-- the first byte of a part, and then the others
+pub copy-step : (s part : List ℕ) (p k : ℕ) → k < length part → sets s p (drop k part) ≡ sets (set s p (getD part k 0)) (p + 1) (drop (k + 1) part)
+copy-step s part p k h = rw (drop-cons part k 0 h, add-one p, add-one k)
+
+pub copy-end : (s part : List ℕ) (p k : ℕ) → length part ≤ k → sets s p (drop k part) ≡ s
+copy-end s part p k h = rw (drop-of-length-le part h)
 
 -- ---- other places are untouched
 

@@ -203,3 +203,19 @@ pub fn lay(out: &mut [u8], ws: &[usize], vs: &[u64])
         k += 1;
     }
 }
+
+// The bytes of a part from a place on.
+pub fn copy(out: &mut [u8], at: usize, part: &[u8])
+    ensures { λ _. ⌜ now (out .exit) ≡ sets (now (out .entry)) at (now (part .entry)) ⌝ }
+{
+    let mut p = at;
+    let mut k = 0;
+    while k < part.len() {
+        if out.len() <= p {
+            return;
+        }
+        out[p] = part[k];
+        p += 1;
+        k += 1;
+    }
+}
