@@ -2,7 +2,7 @@
 use mathlib.Core.Path.{_≡_, refl, sym, ap, _∙_}
 use mathlib.Core.Bool.{Bool, true, false, cond}
 use mathlib.Core.List.{List, [], _∷_, _++_, append-assoc}
-use Prim.Native.Nat.{ℕ, zero, suc, _+_, _≤_, _<_}
+use Prim.Native.Nat.{ℕ, zero, suc, _+_, _-_, _≤_, _<_}
 use native.Mathlib.Nat.{lt-irrefl, lt-of-le-of-lt}
 use native.Mathlib.Omega.{arith}
 use borrow.Author.Tests.{eqb-true, eqb-false}
@@ -11,13 +11,18 @@ use lib.ListN.{length, getD, take, replicate}
 use Rattle.wire.specs.Layout.{sum, Room}
 use Rattle.wire.proofs.Laid.{numbers-laid, laid-numbers, laid-then-zeros, length-laid, length-numbers, numbers-room, numbers-take, room-length}
 use Rattle.sheet.specs.Sheet.{Row}
-use Rattle.sheet.specs.Rows.{widths, numbersIn, dataOf, canonical, least, leastFrom}
+use Rattle.sheet.specs.Rows.{widths, total, numbersIn, dataOf, canonical, least, leastFrom}
 
 -- ---- data sections
 
+sum-last : (ws : List ℕ) (k : ℕ) → sum (ws ++ k ∷ []) ≡ sum ws + k
+sum-last [] k = omega arith
+sum-last (w ∷ ws) k = omega (arith, sum-last ws k)
+
 module _ (r : Row) where
-  pub data-length : (ns : List ℕ) → length (dataOf r ns) ≡ sum (widths r ++ r .reserved ∷ [])
-  data-length ns = length-laid (widths r ++ r .reserved ∷ []) ns
+  -- the data section is the frame without name and CRC
+  pub data-length : (ns : List ℕ) → length (dataOf r ns) ≡ total r - 6
+  data-length ns = omega (arith, length-laid (widths r ++ r .reserved ∷ []) ns, sum-last (widths r) (r .reserved))
 
   -- a data section made of numbers holds these numbers, whatever stands behind it
   pub read-back : (ns rest : List ℕ) → Room (widths r) ns → numbersIn r (dataOf r ns ++ rest) ≡ ns

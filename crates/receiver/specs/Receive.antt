@@ -1,0 +1,54 @@
+-- What one call promises, by the rule's own call. In quotation marks: sheet 01, "One call".
+use mathlib.Core.Bool.{cond}
+use mathlib.Core.List.{List, _++_}
+use mathlib.Core.Path.{_≡_}
+use Prim.Native.Nat.{ℕ, _≤_, _<_}
+use lib.Dec.{eqb}
+use lib.ListN.{length, take, drop}
+use Rattle.rule.specs.Calls.{Called}
+use Rattle.unit.specs.Names.{need}
+use Rattle.unit.specs.Unit.{Memory, orderOf}
+use Rattle.unit.specs.declared.names.Order.{Order}
+use Rattle.receiver.specs.State.{padded, boardOf}
+use Rattle.receiver.specs.declared.Board.{Board}
+use Rattle.receiver.specs.declared.Call.{Call}
+
+-- "It answers a number, the bytes taken, the reply bytes written, the order and the next state." A call that took nothing leaves the board as it
+-- is, spare bytes too
+abbrev pub answer : Board → Called Order Memory → Call
+answer b c =
+    record {
+      number = c .number;
+      taken = c .taken;
+      written = length (c .said .reply);
+      order = orderOf (c .said .orders);
+      board = cond (eqb (c .taken) 0) b (boardOf (c .said .next));
+    }
+
+-- THE PROMISE of a call that is c by the rule: its answer, and each byte of the reply buffer. "Each reply is written straight behind the one
+-- before it in the same buffer, and every byte past the written part keeps its value."
+pub record Received (c : Called Order Memory) (board : Board) (before : List ℕ) (r : Call) (after : List ℕ) : Type 0 where
+  pub result : r ≡ answer board c
+  pub reply : after ≡ c .said .reply ++ drop (length (c .said .reply)) before
+
+-- ---- inside a call
+
+-- zeros behind the unfinished bytes, which are a true beginning
+pub record Tidy (b : Board) : Type 0 where
+  pub zeros : b .held ≡ padded (take (b .count) (b .held))
+  pub count : b .count < 48
+  pub begun : b .count < need (take (b .count) (b .held))
+
+-- the loop's answer
+abbrev pub ran : Called Order Memory → Call
+ran c =
+    record { number = c .number; taken = c .taken; written = length (c .said .reply); order = orderOf (c .said .orders); board = boardOf (c .said .next) }
+
+pub record Ran (c : Called Order Memory) (before : List ℕ) (r : Call) (after : List ℕ) : Type 0 where
+  pub result : r ≡ ran c
+  pub reply : after ≡ c .said .reply ++ drop (length (c .said .reply)) before
+
+-- r bytes behind u, of the next `left`, end no unit, whatever they are
+pub record Quiet (u : List ℕ) (left r : ℕ) : Type 0 where
+  pub few : r ≤ left
+  pub short : (w : List ℕ) → length w ≤ r → length (u ++ w) < need (u ++ w)

@@ -1,0 +1,59 @@
+-- A call is the byte step over the bytes it took.
+use Prim.Native.Nat.{ℕ}
+use mathlib.Core.Path.{_≡_, refl, ap, sym, _∙_}
+use mathlib.Core.List.{List, [], _∷_, _++_, append-assoc}
+use native.Mathlib.Omega.{arith}
+use lib.Dec.{ltb}
+use lib.ListN.{length, take, drop, take-append-drop}
+use Rattle.rule.specs.Run.{Item, byte, at}
+use Rattle.rule.specs.Rule.{Said, quiet, then, State, Protocol}
+use Rattle.rule.specs.Step.{steps}
+use Rattle.rule.specs.Calls.{none, accept, call}
+use Rattle.rule.specs.Facts.{says, TakesSteps}
+use Rattle.rule.proofs.Choice.{either}
+use Rattle.rule.proofs.Accept.{accept-by}
+use Rattle.rule.proofs.Said.{then-quiet}
+use Rattle.rule.proofs.Steps.{steps-append}
+
+pub at-append : {E : Type 0} (t : ℕ) (u w : List ℕ) → at {E = E} t (u ++ w) ≡ at t u ++ at t w
+at-append {E} t [] w = refl
+at-append {E} t (b ∷ u) w = ap (λ (r : List (Item E)). byte t b ∷ r) (at-append t u w)
+
+module _ {E O M : Type 0} (p : Protocol E O M) where
+  none-steps : (s : State M) (t n : ℕ) (piece : List ℕ) → TakesSteps p s t piece (none n s)
+  unfolding steps
+  none-steps s t n piece = record { same = refl; most = omega arith }
+
+  pub accept-steps : (piece : List ℕ) (s : State M) (t room : ℕ) → TakesSteps p s t piece (accept p s t room piece)
+  unfolding steps
+  accept-steps piece s t room =
+      accept-by p t (λ s _ piece c. TakesSteps p s t piece c) (record {
+        at-end = λ s _. none-steps s t 0 [];
+        at-full = λ s _ x piece _. none-steps s t 0 (x ∷ piece);
+        at-order = λ s _ x _ _ _ _ _. record { same = sym (then-quiet (says p t s x)); most = omega arith };
+        at-next = λ s _ x _ c _ _ ih. record { same = ap (λ (a : Said O (State M)). then (says p t s x) (λ _. a)) (ih .same); most = omega (arith, ih .most) };
+      }) piece s room
+
+  pub call-steps : (piece : List ℕ) (s : State M) (t room : ℕ) → TakesSteps p s t piece (call p s t room piece)
+  unfolding call
+  call-steps piece s t room =
+      either (TakesSteps p s t piece) (ltb (p .longest) (length piece)) _ _ (none-steps s t 1 piece)
+      (either (TakesSteps p s t piece) (ltb room (p .least)) _ _ (none-steps s t 2 piece)
+      (either (TakesSteps p s t piece) (p .sound s) _ _ (accept-steps piece s t room) (none-steps s t 3 piece)))
+
+  -- a call, and then byte steps over what it left of its piece and the run behind: byte steps over all
+  pub call-on : (s : State M) (t room : ℕ) (piece : List ℕ) (q : List (Item E))
+      → let c = call p s t room piece in then (c .said) (λ n. steps p n (at t (drop (c .taken) piece) ++ q)) ≡ steps p s (at t piece ++ q)
+  call-on s t room piece q =
+      let k = call p s t room piece .taken in
+      let front = at t (take k piece) in
+      let rest = at t (drop k piece) in
+      let split : front ++ rest ≡ at t piece = sym (at-append t (take k piece) (drop k piece)) ∙ ap (at t) (take-append-drop k piece) in
+      let same : front ++ (rest ++ q) ≡ at t piece ++ q = sym (append-assoc front rest q) ∙ ap (λ (r : List (Item E)). r ++ q) split in
+      ap (λ (a : Said O (State M)). then a (λ n. steps p n (rest ++ q))) (call-steps piece s t room .same) ∙ sym (steps-append p front (rest ++ q) s)
+      ∙ ap (steps p s) same
+
+  -- a call that took nothing did nothing
+  pub call-none : (s : State M) (t room : ℕ) (piece : List ℕ) → call p s t room piece .taken ≡ 0 → call p s t room piece .said ≡ quiet s
+  unfolding steps
+  call-none s t room piece e = call-steps piece s t room .same ∙ ap (λ (k : ℕ). steps p s (at t (take k piece))) e

@@ -1,0 +1,12 @@
+pub mod Choice
+pub mod Said
+pub mod Front
+pub mod Framing
+pub mod Steps
+pub mod Accept
+pub mod Calls
+pub mod Loop
+pub mod Progress
+pub mod First
+pub mod Bytes
+pub mod Largest

@@ -1,0 +1,39 @@
+-- The byte step over any run, from nothing unfinished, is the whole-run rule.
+use Prim.Native.Nat.{ℕ}
+use mathlib.Core.Path.{_≡_, refl, ap, sym, _∙_}
+use mathlib.Core.List.{List, [], _∷_, _++_}
+use Rattle.rule.specs.Run.{Item}
+use Rattle.rule.specs.Framing.{Needs}
+use Rattle.rule.specs.Rule.{Said, then, Line, State, with-line, Protocol, deal, wholeRun}
+use Rattle.rule.specs.Step.{feed, feeds, step, steps}
+use Rattle.rule.proofs.Said.{then-then, deal-append}
+use Rattle.rule.proofs.Framing.{feeds-is-units, feeds-last}
+
+module _ {E O M : Type 0} (p : Protocol E O M) where
+  pub steps-append : (q r : List (Item E)) (s : State M) → steps p s (q ++ r) ≡ then (steps p s q) (λ c. steps p c r)
+  unfolding steps
+  steps-append [] r s = refl
+  steps-append (x ∷ q) r s =
+      ap (λ (f : State M → Said O (State M)). then (step p s x) f) (λ i c. steps-append q r c i)
+      ∙ sym (then-then (step p s x) (λ c. steps p c q) (λ c. steps p c r))
+
+  -- the byte steps are the framing's, dealt with
+  pub steps-feeds : (r : List (Item E)) (s : State M)
+      → let f = feeds (p .cuts) (p .need) (s .line) r in steps p s r ≡ with-line (f .line) (deal p (s .memory) (f .tokens))
+  unfolding steps step feeds deal
+  steps-feeds [] s = refl
+  steps-feeds (x ∷ r) s =
+      let f = feed (p .cuts) (p .need) (s .line) x in
+      let g = feeds (p .cuts) (p .need) (f .line) r in
+      rw (steps-feeds r (step p s x .next)) (ap (with-line (g .line)) (sym (deal-append p (f .tokens) (g .tokens) (s .memory))))
+
+  -- THE BYTE STEP OVER ANY RUN, FROM NOTHING UNFINISHED, IS THE WHOLE-RUN RULE
+  pub steps-is-whole : Needs (p .need) → (m : M) (t : ℕ) (r : List (Item E))
+      → steps p (record { memory = m; line = record { unfinished = []; last = t } }) r ≡ wholeRun p m t r
+  unfolding wholeRun
+  steps-is-whole law m t r =
+      let l : Line = record { unfinished = []; last = t } in
+      let cut = feeds-is-units (p .cuts) (p .need) law r t in
+      let stamp = feeds-last (p .cuts) (p .need) r l in
+      steps-feeds r (record { memory = m; line = l })
+      ∙ (λ i. with-line (record { unfinished = cut i .unfinished; last = stamp i }) (deal p m (cut i .tokens)))

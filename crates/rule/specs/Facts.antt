@@ -1,0 +1,64 @@
+-- The words in which the laws of proofs/ are stated; no part of the rule. In quotation marks: sheet 01.
+use Prim.Native.Nat.{ℕ, _-_, _<_, _≤_}
+use mathlib.Core.Path.{_≡_}
+use mathlib.Core.List.{List, [], _∷_, _++_}
+use lib.ListN.{length, take, drop}
+use Rattle.rule.specs.Run.{byte, at}
+use Rattle.rule.specs.Framing.{Token, whole, lost, seen, Front, ends, drops, stays, Cut}
+use Rattle.rule.specs.Rule.{Said, State, Protocol}
+use Rattle.rule.specs.Step.{step, steps}
+use Rattle.rule.specs.Calls.{Called}
+
+module _ {E : Type 0} where
+  -- the bytes in tokens, in their sequence
+  abbrev pub spent : List (Token E) → List ℕ
+  spent [] = []
+  spent (whole u ∷ ks) = u ++ spent ks
+  spent (lost u ∷ ks) = u ++ spent ks
+  spent (seen e ∷ ks) = spent ks
+
+  -- all the bytes of a cut
+  abbrev pub held : Cut E → List ℕ
+  held c = spent (c .tokens) ++ c .unfinished
+
+  -- the run behind the first unit has at most n items
+  abbrev pub AtMost : ℕ → Front E → Type 0
+  AtMost n (ends es u r) = length r ≤ n
+  AtMost n (drops es u r) = length r ≤ n
+  AtMost n (stays es u) = Unit {0}
+
+module _ {E O M : Type 0} (p : Protocol E O M) where
+  -- what the byte x, taken at t, says from the state s
+  abbrev pub says : ℕ → State M → ℕ → Said O (State M)
+  says t s x = step p s (byte t x)
+
+  -- "drops the unit's bytes so far, without reply or flag": and without order
+  pub record Silent : Type 0 where
+    pub reply : (m : M) (u : List ℕ) → p .act m (lost u) .reply ≡ []
+    pub orders : (m : M) (u : List ℕ) → p .act m (lost u) .orders ≡ []
+
+  -- "its unfinished bytes are none or a true beginning of one unit"
+  abbrev pub Begun : State M → Type 0
+  Begun s = length (s .line .unfinished) < p .need (s .line .unfinished)
+
+  -- a call c is the byte steps over what it took
+  pub record TakesSteps (s : State M) (t : ℕ) (piece : List ℕ) (c : Called O M) : Type 0 where
+    pub same : c .said ≡ steps p s (at t (take (c .taken) piece))
+    pub most : c .taken ≤ length piece
+
+  -- "one of three things: the piece has ended; a byte taken completed an order; or the next byte would cause a reply that does not fit in the room left"
+  pub data Stopped (t room : ℕ) (piece : List ℕ) (c : Called O M) : Type 0 where
+    ended : c .taken ≡ length piece → Stopped t room piece c
+    ordered : (o : O) (os : List O) → c .said .orders ≡ o ∷ os → Stopped t room piece c
+    full : (x : ℕ) (rest : List ℕ) → drop (c .taken) piece ≡ x ∷ rest
+        → room - length (c .said .reply) < length (says t (c .said .next) x .reply)
+        → Stopped t room piece c
+
+  -- the first k bytes of a piece, by the byte step
+  abbrev pub reached : State M → ℕ → List ℕ → ℕ → Called O M
+  reached s t piece k = record { number = 0; taken = k; said = steps p s (at t (take k piece)) }
+
+  -- "takes bytes from the front until one of three things": n bytes meet one of them, and fewer meet none
+  pub record Largest (s : State M) (t room : ℕ) (piece : List ℕ) (n : ℕ) : Type 0 where
+    pub stopped : Stopped t room piece (reached s t piece n)
+    pub before : (k : ℕ) → k < n → Stopped t room piece (reached s t piece k) → ⊥

@@ -1,0 +1,7 @@
+pub mod Run
+pub mod Framing
+pub mod Rule
+pub mod Step
+pub mod Calls
+pub mod Loop
+pub mod Facts

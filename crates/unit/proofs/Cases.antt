@@ -1,0 +1,128 @@
+-- The starred cases of sheet 01, "Frames on the bench": all thirteen in one table, under one statement about the definitions. In quotation marks: 01.
+-- Assumes nothing.
+use mathlib.Core.Path.{_≡_, refl}
+use mathlib.Core.List.{List, [], _∷_, _++_, map}
+use Prim.Native.Nat.{ℕ}
+use Prim.Native.Char.{code}
+use Prim.Native.String.{String, [] as empty, _∷_ as _then_}
+use lib.ListN.{replicate}
+use Rattle.crc.specs.Crc.{crcBit, crcBits, crcByte, crcFrom, crcOf}
+use Rattle.wire.specs.Numbers.{leAt, leBytes}
+use Rattle.wire.specs.Layout.{laid}
+use Rattle.wire.specs.Tests.{within, firstFalse}
+use Rattle.sheet.specs.Rows.{least}
+use Rattle.settings.specs.Settings.{numbersAt}
+use Rattle.rule.specs.Run.{Item, at, wait, late, onward, lastStamp}
+use Rattle.rule.specs.Framing.{front, units}
+use Rattle.rule.specs.Rule.{deal, wholeRun}
+use Rattle.unit.specs.Names.{orderNumber, setBlock, getBlock, orderKind, kindOf, need}
+use Rattle.unit.specs.Unit.{Event, freshMemory, intact, gets, checked, puts, does, act}
+use Rattle.unit.specs.Protocol.{protocol}
+
+-- ---- what a case says
+
+-- what a run comes to: the whole reply, the orders by number, the bytes that stay unfinished, the flags, the last refused block and field, and the
+-- numbers that a block holds
+pub record Outcome : Type 0 where
+  pub reply : List ℕ
+  pub orders : List ℕ
+  pub unfinished : List ℕ
+  pub flags : ℕ
+  pub block : ℕ
+  pub field : ℕ
+  pub holds : List ℕ
+
+-- the rule's outcome of a run on a fresh board, with the numbers of block k
+abbrev pub outcome : List (Item Event) → ℕ → Outcome
+outcome run k =
+    let a = wholeRun protocol freshMemory 0 run in
+    record {
+      reply = a .reply;
+      orders = map orderNumber (a .orders);
+      unfinished = a .next .line .unfinished;
+      flags = a .next .memory .notes .flags;
+      block = a .next .memory .notes .block;
+      field = a .next .memory .notes .field;
+      holds = numbersAt (a .next .memory .settings) k;
+    }
+
+-- bytes and their CRC; or a run on a fresh board, a block to look at, and what the run comes to
+pub data Case : Type 0 where
+  crc : List ℕ → ℕ → Case
+  frame : List (Item Event) → ℕ → Outcome → Case
+
+abbrev pub Holds : Case → Type 0
+Holds (crc bytes register) = crcOf bytes ≡ register
+Holds (frame run k o) = outcome run k ≡ o
+
+-- every case of a table holds
+pub data Each : List Case → Type 0 where
+  none : Each []
+  row : {c : Case} {cs : List Case} → Holds c → Each cs → Each (c ∷ cs)
+
+-- ---- the table
+
+-- letters as bytes, "sent in letter order"
+abbrev pub sent : String → List ℕ
+sent empty = []
+sent (c then s) = code c ∷ sent s
+
+abbrev pub zeros : ℕ → List ℕ
+zeros n = replicate n 0
+
+-- a set of block 6 with t1 65535, and this CRC behind it
+abbrev pub brake : List ℕ → List ℕ
+brake check = sent "sbrk" ++ (0xFF ∷ 0xFF ∷ zeros 17 ++ check)
+
+abbrev pub cases : List Case
+cases =
+    -- "CRC of nothing 0xFFFF;
+    crc [] 0xFFFF
+    -- of 00: 0x40BF;
+    ∷ crc (0x00 ∷ []) 0x40BF
+    -- of FF: 0x00FF;
+    ∷ crc (0xFF ∷ []) 0x00FF
+    -- of FF FF: 0x0000;
+    ∷ crc (0xFF ∷ 0xFF ∷ []) 0x0000
+    -- of the nine digits 123456789: 0x4B37 (five cases)."
+    ∷ crc (sent "123456789") 0x4B37
+    -- "sbrk, FF FF, 17 zeros, CRC 00 00: reply sbrk, t1 is 65535."
+    ∷ frame (at 0 (brake (0x00 ∷ 0x00 ∷ []))) 6
+    (record { reply = sent "sbrk"; orders = []; unfinished = []; flags = 0; block = 0; field = 0; holds = 65535 ∷ 0 ∷ 0 ∷ 0 ∷ 0 ∷ [] })
+    -- "Then gbrk: gbrk, FF FF, 17 zeros, 00 00."
+    ∷ frame (at 0 (brake (0x00 ∷ 0x00 ∷ [])) ++ at 0 (sent "gbrk")) 6
+    (record {
+      reply = sent "sbrk" ++ (sent "gbrk" ++ (0xFF ∷ 0xFF ∷ zeros 17 ++ (0x00 ∷ 0x00 ∷ [])));
+      orders = [];
+      unfinished = [];
+      flags = 0;
+      block = 0;
+      field = 0;
+      holds = 65535 ∷ 0 ∷ 0 ∷ 0 ∷ 0 ∷ [];
+    })
+    -- "The same set with CRC 01 00: errd, block 6 as before."
+    ∷ frame (at 0 (brake (0x01 ∷ 0x00 ∷ []))) 6
+    (record { reply = sent "errd"; orders = []; unfinished = []; flags = 2; block = 0; field = 0; holds = 0 ∷ 0 ∷ 0 ∷ 0 ∷ 0 ∷ [] })
+    -- "smov, FF FF, 22 zeros, 00 00: errv, block 1 field 3, Speed still 0 on a fresh board."
+    ∷ frame (at 0 (sent "smov" ++ (0xFF ∷ 0xFF ∷ zeros 22 ++ (0x00 ∷ 0x00 ∷ [])))) 1
+    (record { reply = sent "errv"; orders = []; unfinished = []; flags = 4; block = 1; field = 3; holds = 0 ∷ 0 ∷ 1 ∷ 1 ∷ 0 ∷ 0 ∷ [] })
+    -- "righ then t: errc, one byte unfinished."
+    ∷ frame (at 0 (sent "righ") ++ at 0 (sent "t")) 1
+    (record { reply = sent "errc"; orders = []; unfinished = sent "t"; flags = 1; block = 0; field = 0; holds = 0 ∷ 0 ∷ 1 ∷ 1 ∷ 0 ∷ 0 ∷ [] })
+    -- "s and four zeros: errc, then one zero byte."
+    ∷ frame (at 0 (sent "s" ++ zeros 4)) 1
+    (record { reply = sent "errc" ++ (0x00 ∷ []); orders = []; unfinished = []; flags = 1; block = 0; field = 0; holds = 0 ∷ 0 ∷ 1 ∷ 1 ∷ 0 ∷ 0 ∷ [] })
+    -- "st at stamp 4294967200, op at 304 (wait 400): order 1."
+    ∷ frame (at 4294967200 (sent "st") ++ at 304 (sent "op")) 1
+    (record { reply = sent "stop"; orders = 1 ∷ []; unfinished = []; flags = 0; block = 0; field = 0; holds = 0 ∷ 0 ∷ 1 ∷ 1 ∷ 0 ∷ 0 ∷ [] })
+    -- "At 305: dropped, op unfinished."
+    ∷ frame (at 4294967200 (sent "st") ++ at 305 (sent "op")) 1
+    (record { reply = []; orders = []; unfinished = sent "op"; flags = 0; block = 0; field = 0; holds = 0 ∷ 0 ∷ 1 ∷ 1 ∷ 0 ∷ 0 ∷ [] })
+    ∷ []
+
+pub starred : Each cases
+unfolding crcBit crcBits crcByte crcFrom leAt leBytes laid within firstFalse least setBlock getBlock orderKind kindOf need intact gets checked puts does act
+    wait late onward lastStamp front units deal wholeRun
+starred =
+    row refl (row refl (row refl (row refl (row refl
+    (row refl (row refl (row refl (row refl (row refl (row refl (row refl (row refl none))))))))))))

@@ -1,0 +1,68 @@
+-- `unit::answer_get` meets its contract. Assumes nothing.
+use mathlib.Core.Path.{_≡_, refl, sym, _∙_}
+use lib.Seq.{length-take-le}
+use borrow.Author.Needs.{needs}
+use Rattle.unit.specs.Unit.{memory}
+use Rattle.unit.proofs.Gets.{section-room, says-got}
+use Rattle.unit.proofs.answer_get.Statement.{statement}
+use Rattle.unit.proofs.answer_get.Tie as tie
+
+array-share-prefix-section : tie.Need-array-share-prefix-section
+array-share-prefix-section c =
+    let t = c .before .before .before .before .before in
+    let g = t .before .before in
+    let a = g .before .before .before .args in
+    section-room (memory (a .settings) (a .notes)) (a .k) _ (t .total-of .ensures) _ _ refl (g .get .ensures)
+
+slice-aggregate-copy : tie.Need-slice-aggregate-copy
+slice-aggregate-copy c =
+    let t = c .before .before .before .before .before .before in
+    let g = t .before .before in
+    let a = g .before .before .before .args in
+    sym (length-take-le _ _ (section-room (memory (a .settings) (a .notes)) (a .k) _ (t .total-of .ensures) _ _ refl (g .get .ensures)))
+
+array-share-prefix-section-2 : tie.Need-array-share-prefix-section-2
+array-share-prefix-section-2 c =
+    let t = c .before .before .before .before .before .before .before .before .before .before in
+    let g = t .before .before in
+    let a = g .before .before .before .args in
+    section-room (memory (a .settings) (a .notes)) (a .k) _ (t .total-of .ensures) _ _ refl (g .get .ensures)
+
+slice-aggregate-crc : tie.Need-slice-aggregate-crc
+slice-aggregate-crc c =
+    let t = c .before .before .before .before .before .before .before .before .before .before .before in
+    let g = t .before .before in
+    let a = g .before .before .before .args in
+    sym (length-take-le _ _ (section-room (memory (a .settings) (a .notes)) (a .k) _ (t .total-of .ensures) _ _ refl (g .get .ensures)))
+
+returns : tie.Need-returns
+returns c =
+    let crc = c .before .before .before in
+    let copy = crc .before .before .before .before .before in
+    let put = copy .before .before .before .before .before in
+    let t = put .before .before in
+    let g = t .before .before in
+    let a = g .before .before .before .args in
+    says-got (memory (a .settings) (a .notes)) (a .k) _ (t .total-of .ensures) _ _ refl (g .get .ensures) (a .name) _ _ _ _ _
+    (put .put .ensures) (copy .copy .ensures) (c .before .before .put2 .ensures) (crc .crc .ensures)
+
+pub answer-get-spec : {M : Type 1} → statement M
+answer-get-spec =
+    tie.close
+    (tie.spec
+    (λ c. search needs)
+    (λ c κs. search needs)
+    (λ c κs. search needs)
+    (λ c. search needs)
+    (λ c κs. search needs)
+    array-share-prefix-section
+    slice-aggregate-copy
+    (λ c κs. search needs)
+    (λ c. search needs)
+    array-share-prefix-section-2
+    slice-aggregate-crc
+    (λ c κs. search needs)
+    (λ c. search needs)
+    (λ c κs. search needs)
+    (λ c. search needs)
+    returns)

@@ -1,0 +1,35 @@
+-- This protocol, as the rule and a call take it. In quotation marks: sheet 01, "One call".
+use mathlib.Core.Bool.{Bool, true, false, cond}
+use mathlib.Core.List.{List, []}
+use Prim.Native.Nat.{ℕ}
+use lib.Dec.{leb, ltb}
+use lib.ListN.{length}
+use Rattle.settings.specs.Settings.{allGood}
+use Rattle.rule.specs.Rule.{State, Protocol}
+use Rattle.unit.specs.Names.{need}
+use Rattle.unit.specs.Unit.{Memory, Event, act, freshMemory}
+use Rattle.unit.specs.declared.names.Order.{Order}
+
+-- no event drops a unit
+abbrev never : ℕ → Event → Bool
+never t e = false
+
+-- "every field lies in its range, the floats are finite, and the flags are at most 7"
+unfoldable pub soundMemory : Memory → Bool
+soundMemory m = cond (leb (m .notes .flags) 7) (allGood (m .settings)) false
+
+-- "its unfinished bytes are none or a true beginning of one unit (first byte not zero; from four bytes on, the name of a set, and fewer bytes
+-- than its block's total)"
+unfoldable pub begun : List ℕ → Bool
+begun u = ltb (length u) (need u)
+
+-- "A state is sound when .."
+unfoldable pub soundState : State Memory → Bool
+soundState s = cond (begun (s .line .unfinished)) (soundMemory (s .memory)) false
+
+abbrev pub protocol : Protocol Event Order Memory
+protocol = record { cuts = never; need = need; act = act; longest = 250; least = 48; sound = soundState }
+
+-- "nothing is unfinished, the last stamp is 0"
+abbrev pub freshState : State Memory
+freshState = record { memory = freshMemory; line = record { unfinished = []; last = 0 } }

@@ -1,0 +1,135 @@
+// What one whole unit does: its reply, its order, the next settings and notes.
+pub mod names;
+
+use names::Kind;
+use names::Order;
+use settings::Settings;
+ghost use mathlib.Core.Path.{_≡_};
+ghost use lib.Seq.{sets};
+ghost use Rattle.sheet.specs.Rows.{rowAt, total};
+ghost use Rattle.unit.specs.Unit.{memory, flag, intact, puts, gets, answered, Judges};
+
+// What a unit can change besides the settings: the flags, the last refused block and field.
+#[repr(C)]
+pub struct Notes {
+    pub flags: u8,
+    pub block: usize,
+    pub field: usize,
+}
+
+pub struct Judged {
+    pub order: Order,
+    pub settings: Settings,
+    pub notes: Notes,
+}
+
+const ERRC: u64 = 0x63727265;
+
+const ERRD: u64 = 0x64727265;
+
+const ERRV: u64 = 0x76727265;
+
+fn flagged(notes: Notes, bit: u8) -> Notes
+    ensures { λ r. ⌜ r ≡ flag bit notes ⌝ }
+{
+    let mut next = notes;
+    next.flags = notes.flags | bit;
+    next
+}
+
+// Whether the CRC in a unit's last two bytes is that of its data section.
+fn is_intact(unit: &[u8]) -> bool
+    ensures { λ r. ⌜ r ≡ intact (now (unit .entry)) ⌝ }
+{
+    if unit.len() < 6 {
+        return false;
+    }
+    let end = unit.len() - 2;
+    crc::crc(&unit[4..end]) == wire::u16_at(unit, end)
+}
+
+// A get's answer. The data section is laid out aside, so that its CRC is taken of what is sent.
+fn answer_get(settings: Settings, notes: Notes, name: u32, k: usize, reply: &mut [u8]) -> Judged
+    ensures { λ r. ⌜ Judges (gets (memory settings notes) name k) (now (reply .entry)) r (now (reply .exit)) ⌝ }
+{
+    let mut section = [0u8; 48];
+    settings.get(k, &mut section);
+    let n = names::total_of(k) - 6;
+    wire::put(reply, 0, 4, name as u64);
+    wire::copy(reply, 4, &section[..n]);
+    wire::put(reply, 4 + n, 2, crc::crc(&section[..n]) as u64);
+    Judged {
+        order: Order::Nothing,
+        settings,
+        notes,
+    }
+}
+
+// A set's answer: the CRC first, then the fields; stored whole or not at all.
+fn answer_set(settings: Settings, notes: Notes, k: usize, unit: &[u8], reply: &mut [u8]) -> Judged
+    ensures { λ r. ⌜ Judges (puts (memory settings notes) k (now (unit .entry))) (now (reply .entry)) r (now (reply .exit)) ⌝ }
+{
+    if !is_intact(unit) {
+        wire::put(reply, 0, 4, ERRD);
+        return Judged {
+            order: Order::Nothing,
+            settings,
+            notes: flagged(notes, 2),
+        };
+    }
+    let end = unit.len() - 2;
+    let next = settings.put(k, &unit[4..end]);
+    let bad = next.first_bad(k);
+    if bad != 0 {
+        wire::put(reply, 0, 4, ERRV);
+        let flags = notes.flags | 4;
+        let refused = Notes {
+            flags,
+            block: k,
+            field: bad,
+        };
+        return Judged {
+            order: Order::Nothing,
+            settings,
+            notes: refused,
+        };
+    }
+    wire::put(reply, 0, 4, wire::u32_at(unit, 0) as u64);
+    Judged {
+        order: Order::Nothing,
+        settings: next,
+        notes,
+    }
+}
+
+// The answer to a whole unit that begins with a name.
+pub fn answer(settings: Settings, notes: Notes, unit: &[u8], reply: &mut [u8]) -> Judged
+    ensures { λ r. ⌜ Judges (answered (memory settings notes) (now (unit .entry))) (now (reply .entry)) r (now (reply .exit)) ⌝ }
+{
+    let name = wire::u32_at(unit, 0);
+    let kind = names::kind_of(name);
+    match kind {
+        Kind::Set(k) => {
+            return answer_set(settings, notes, k, unit, reply);
+        }
+        Kind::Get(k) => {
+            return answer_get(settings, notes, name, k, reply);
+        }
+        Kind::Gives(order) => {
+            wire::put(reply, 0, 4, name as u64);
+            return Judged {
+                order,
+                settings,
+                notes,
+            };
+        }
+        Kind::Unknown => {
+            wire::put(reply, 0, 4, ERRC);
+            return Judged {
+                order: Order::Nothing,
+                settings,
+                notes: flagged(notes, 1),
+            };
+        }
+    }
+}
