@@ -10,3 +10,4 @@ pub mod Progress
 pub mod First
 pub mod Bytes
 pub mod Largest
+pub mod Numbered

@@ -3,6 +3,7 @@ pub mod Sets
 pub mod Gets
 pub mod Need
 pub mod Replies
+pub mod Due
 pub mod Sound
 pub mod Kept
 pub mod Cases

@@ -1,0 +1,305 @@
+-- The demands, over what the contracts of the two public functions themselves say. In quotation marks: sheet 01, and the demands by number.
+-- Assumes nothing.
+use Prim.Native.Nat.{ℕ, _-_, _<_, _≤_}
+use mathlib.Core.Path.{_≡_, refl, ap, sym, subst, _∙_}
+use mathlib.Core.Bool.{true, cond}
+use mathlib.Core.List.{List, [], _∷_, _++_}
+use native.Mathlib.Omega.{arith}
+use denote.Ref.{RefT, now}
+use lib.Dec.{eqb, ltb}
+use lib.ListN.{length, take, drop, replicate}
+use lib.Seq.{take-append-seam, drop-append-seam}
+use Rattle.promise.specs.Promise.{Leaves}
+use Rattle.rule.specs.Run.{Item, byte, bytes, at}
+use Rattle.rule.specs.Framing.{unitsOf}
+use Rattle.rule.specs.Rule.{Said, quiet, then, State, wholeRun}
+use Rattle.rule.specs.Step.{step, steps}
+use Rattle.rule.specs.Calls.{Called, call}
+use Rattle.rule.specs.Facts as facts
+use Rattle.rule.specs.Facts.{spent, Stopped, Largest}
+use Rattle.rule.proofs.Steps.{steps-is-whole}
+use Rattle.rule.proofs.Calls.{call-steps, call-on, call-none}
+use Rattle.rule.proofs.Progress.{accept-stops}
+use Rattle.rule.proofs.Largest.{accept-largest, largest-one}
+use Rattle.rule.proofs.Bytes.{units-bytes}
+use Rattle.rule.proofs.Numbered.{Accepted, call-accepted, call-number, call-zero, call-fits}
+use Rattle.unit.specs.Unit.{Memory, Event, freshMemory, orderOf}
+use Rattle.unit.specs.Protocol.{protocol, soundState, freshState}
+use Rattle.unit.proofs.Need.{need-law}
+use Rattle.unit.proofs.Replies.{given}
+use Rattle.unit.proofs.Sound as sound
+use Rattle.unit.specs.declared.names.Order.{Order}
+use Rattle.unit.specs.declared.names.Order.the-variants.{Nothing}
+use Rattle.receiver.specs.State.{stateOf, boardOf}
+use Rattle.receiver.specs.Receive.{answer, Received}
+use Rattle.receiver.specs.declared.Board.{Board}
+use Rattle.receiver.specs.declared.Call.{Call}
+use Rattle.receiver.proofs.Calls.{state-board, call-order, call-board, call-state, accept-some}
+use Rattle.receiver.proofs.fresh.Reads as fresh
+use Rattle.receiver.proofs.receive.Reads as receive
+
+-- ---- what the contracts allow
+
+-- THE CONTRACT OF RECEIVE allows the answer r, with the reply buffer `after` at exit, to a call on the board b at the stamp t, with the piece p and
+-- the reply buffer `before` at entry. `Post` is what the checker made of the `ensures` of `receive` in src/lib.rt
+pub data Answers (b : Board) (t : ℕ) (p before : List ℕ) (r : Call) (after : List ℕ) : Type 0 where
+  allowed : (κs : _) (a : _) (s : _) → receive.Post κs a r s
+      → a .0 ≡ b → now (a .1 .0) ≡ p → a .1 .1 .0 ≡ t → now (a .1 .1 .1 .0) ≡ before → now (s .1 .1 .1 .0) ≡ after
+      → Answers b t p before r after
+
+-- what it says
+pub promise : {b : Board} {t : ℕ} {p before after : List ℕ} {r : Call} → Answers b t p before r after
+    → Received (call protocol (stateOf b) t (length before) p) b before r after
+promise (allowed κs a s got e f g h k) = rw (← e, ← f, ← g, ← h, ← k) got
+
+-- "that promise leaves one possible answer: number, state and each byte of the reply buffer, refusals too"
+pub receive-one : {b : Board} {t : ℕ} {p before after after' : List ℕ} {r r' : Call} → Answers b t p before r after → Answers b t p before r' after'
+    → (r ≡ r') × (after ≡ after')
+receive-one x y = (promise x .result ∙ sym (promise y .result), promise x .reply ∙ sym (promise y .reply))
+
+-- the same of the other public function
+pub fresh-one : Leaves fresh.Post (λ κs r s. r)
+fresh-one κs a r r' s s' p q = p ∙ sym q
+
+refTo : List ℕ → RefT (List ℕ)
+refTo l = record { ptr = (0, 0); name = 0; now = l }
+
+-- Demand 1: "Every board state, piece, stamp and reply buffer gets an answer."
+pub receive-some : (b : Board) (t : ℕ) (p before : List ℕ) → let c = call protocol (stateOf b) t (length before) p in
+    Answers b t p before (answer b c) (c .said .reply ++ drop (length (c .said .reply)) before)
+unfolding refTo
+receive-some b t p before =
+    let c = call protocol (stateOf b) t (length before) p in
+    let after = c .said .reply ++ drop (length (c .said .reply)) before in
+    allowed ([], ([], tt)) (b, (refTo p, (t, (refTo before, tt)))) (b, (refTo p, (t, (refTo after, tt)))) (record { result = refl; reply = refl })
+    refl refl refl refl refl
+
+-- ---- one call
+
+-- a row of the table beside 1, 2 or 3: "0, 0, 0" and "unchanged"
+pub record Untouched (b : Board) (before : List ℕ) (r : Call) (after : List ℕ) : Type 0 where
+  pub taken : r .taken ≡ 0
+  pub written : r .written ≡ 0
+  pub order : r .order ≡ Nothing
+  pub board : r .board ≡ b
+  pub buffer : after ≡ before
+
+-- "one of three things: the piece has ended; a byte taken completed an order; or the next byte would cause a reply that does not fit in the room left"
+pub data Cause (t : ℕ) (p before : List ℕ) (r : Call) : Type 0 where
+  ended : r .taken ≡ length p → Cause t p before r
+  ordered : (r .order ≡ Nothing → ⊥) → Cause t p before r
+  full : (x : ℕ) (rest : List ℕ) → drop (r .taken) p ≡ x ∷ rest
+      → length before - r .written < length (step protocol (stateOf (r .board)) (byte t x) .reply)
+      → Cause t p before r
+
+module _ {b : Board} {t : ℕ} {p before after : List ℕ} {r : Call} (got : Answers b t p before r after) where
+  -- the rule's call
+  abbrev rules : Called Order Memory
+  rules = call protocol (stateOf b) t (length before) p
+
+  is-number : r .number ≡ rules .number
+  is-number = ap (λ (y : Call). y .number) (promise got .result)
+
+  is-taken : r .taken ≡ rules .taken
+  is-taken = ap (λ (y : Call). y .taken) (promise got .result)
+
+  is-written : r .written ≡ length (rules .said .reply)
+  is-written = ap (λ (y : Call). y .written) (promise got .result)
+
+  is-order : r .order ≡ orderOf (rules .said .orders)
+  is-order = ap (λ (y : Call). y .order) (promise got .result)
+
+  -- whatever the board's spare bytes
+  is-state : stateOf (r .board) ≡ rules .said .next
+  is-state = ap (λ (y : Call). stateOf (y .board)) (promise got .result) ∙ call-state b t (length before) p
+
+  -- "A fresh board is sound and each call keeps it so"
+  pub keeps-sound : soundState (stateOf b) ≡ true → soundState (stateOf (r .board)) ≡ true
+  keeps-sound h = ap soundState is-state ∙ sound.call-sound (stateOf b) t (length before) p h
+
+  -- Demand 1: "A piece over 250, room under the least, an unsound state are refused by number"; "When, tested in this sequence"
+  pub numbered : r .number ≡ cond (ltb 250 (length p)) 1 (cond (ltb (length before) 48) 2 (cond (soundState (stateOf b)) 0 3))
+  numbered = is-number ∙ call-number protocol (stateOf b) t (length before) p .number
+
+  -- a call that takes nothing changes nothing
+  pub untouched : r .taken ≡ 0 → Untouched b before r after
+  untouched h =
+      let k : rules .taken ≡ 0 = sym is-taken ∙ h in
+      let n : rules .said ≡ quiet (stateOf b) = call-none protocol (stateOf b) t (length before) p k in
+      record {
+        taken = h;
+        written = is-written ∙ ap (λ (x : Said Order (State Memory)). length (x .reply)) n;
+        order = is-order ∙ ap (λ (x : Said Order (State Memory)). orderOf (x .orders)) n;
+        board = ap (λ (y : Call). y .board) (promise got .result) ∙ ap (λ (m : ℕ). cond (eqb m 0) b (boardOf (rules .said .next))) k;
+        buffer = promise got .reply ∙ ap (λ (x : Said Order (State Memory)). x .reply ++ drop (length (x .reply)) before) n;
+      }
+
+  -- Demand 1: "refused by number: nothing taken, state and buffer stay"
+  pub refused : (r .number ≡ 0 → ⊥) → Untouched b before r after
+  refused h = untouched (is-taken ∙ call-number protocol (stateOf b) t (length before) p .refused (λ e. h (is-number ∙ e)))
+
+  -- "An empty piece changes nothing, the last stamp included."
+  pub empty : length p ≡ 0 → Untouched b before r after
+  empty h = untouched (is-taken ∙ omega (arith, call-steps protocol p (stateOf b) t (length before) .most))
+
+  -- "Each reply is written straight behind the one before it in the same buffer": what is written is what the rule says, and it fits
+  pub written-is : take (r .written) after ≡ rules .said .reply
+  written-is = rw (is-written, promise got .reply) (take-append-seam (rules .said .reply) (drop (length (rules .said .reply)) before))
+
+  pub written-fits : r .written ≤ length before
+  written-fits = rw is-written (call-fits protocol (stateOf b) t (length before) p)
+
+  -- "every byte past the written part keeps its value"
+  pub past-kept : drop (r .written) after ≡ drop (r .written) before
+  past-kept = rw (is-written, promise got .reply) (drop-append-seam (rules .said .reply) (drop (length (rules .said .reply)) before))
+
+  -- the number 0: an accepted call
+  module _ (zero : r .number ≡ 0) where
+    accepted : Accepted protocol (stateOf b) t (length before) p rules
+    accepted = call-zero protocol (stateOf b) t (length before) p (sym is-number ∙ zero)
+
+    -- "With a piece that is not empty, an accepted call takes at least one byte."
+    pub takes : 0 < length p → 0 < r .taken
+    takes some = rw (is-taken, accepted .same) (accept-some (stateOf b) t (length before) p (accepted .wide) some)
+
+    -- "An accepted call takes bytes from the front until one of three things", "It stops for no other cause."
+    pub stops : Cause t p before r
+    stops =
+        by rules (call-order (stateOf b) t (length before) p) (promise got .result) is-state
+        (rw (accepted .same) (accept-stops protocol p (stateOf b) t (length before)))
+      where
+        by : (c : Called Order Memory) → given (orderOf (c .said .orders)) ≡ c .said .orders → r ≡ answer b c → stateOf (r .board) ≡ c .said .next
+            → Stopped protocol t (length before) p c → Cause t p before r
+        by c one same next (facts.ended e) = ended (ap (λ (y : Call). y .taken) same ∙ e)
+        by c one same next (facts.ordered o os e) =
+            ordered
+            (λ n.
+            let z : given Nothing ≡ o ∷ os = ap given (sym n ∙ ap (λ (y : Call). y .order) same) ∙ one ∙ e in
+            let k : _≡_ {A = ℕ} 0 1 = cc in
+            omega arith)
+        by c one same next (facts.full x rest e k) =
+            full x rest (rw (ap (λ (y : Call). y .taken) same) e) (rw (ap (λ (y : Call). y .written) same, next) k)
+
+    -- the exact count: "takes bytes from the front until one of three things", so at the count taken one holds, and at no count before it
+    pub largest : Largest protocol (stateOf b) t (length before) p (r .taken)
+    largest = rw (is-taken, accepted .same) (accept-largest protocol (stateOf b) t (length before) p)
+
+    -- and no other count is the answer: shut out is "one that invents the count of bytes taken"
+    pub only-count : (n : ℕ) → Largest protocol (stateOf b) t (length before) p n → r .taken ≡ n
+    only-count n h = largest-one protocol largest h
+
+-- "A fresh board is sound"
+pub fresh-sound : (κs : _) (a : _) (b s : _) → fresh.Post κs a b s → soundState (stateOf b) ≡ true
+fresh-sound κs a b s is = ap (λ (y : Board). soundState (stateOf y)) is ∙ ap soundState (state-board freshState) ∙ sound.fresh-sound
+
+-- ---- a run, in any cutting
+
+-- what an answer says: the bytes written in the buffer, its order, and the next board
+abbrev pub saidBy : Call → List ℕ → Said Order Board
+saidBy r after = record { reply = take (r .written) after; orders = given (r .order); next = r .board }
+
+-- what the rule says, with the code's board
+abbrev pub leaves : Said Order (State Memory) → Said Order Board
+leaves w = record { reply = w .reply; orders = w .orders; next = boardOf (w .next) }
+
+-- A RUN OFFERED in some cutting, from the board b until all of it is taken, and what was said; each answer is whatever the contract allows
+pub data Offered : Board → List (Item Event) → Said Order Board → Type 0 where
+  done : (b : Board) → Offered b [] (quiet b)
+  -- bytes from the run's front that share a stamp, all of them or some; those not taken stay in front
+  offer : (b : Board) (run rest : List (Item Event)) (x : Said Order Board) (t : ℕ) (p before after : List ℕ) (r : Call) → run ≡ at t p ++ rest
+      → Answers b t p before r after → Offered (r .board) (at t (drop (r .taken) p) ++ rest) x
+      → Offered b run (then (saidBy r after) (λ _. x))
+  -- a call between that takes nothing, empty or refused, whatever its piece
+  aside : (b : Board) (run : List (Item Event)) (x : Said Order Board) (t : ℕ) (p before after : List ℕ) (r : Call) → r .taken ≡ 0
+      → Answers b t p before r after → Offered (r .board) run x
+      → Offered b run (then (saidBy r after) (λ _. x))
+
+-- an answer at a board that stands for s, spare bytes too, says and leaves what the rule's call from s does
+module _ {b : Board} {t : ℕ} {p before after : List ℕ} {r : Call} (got : Answers b t p before r after) (s : State Memory) (is : b ≡ boardOf s) where
+  abbrev c : Called Order Memory
+  c = call protocol s t (length before) p
+
+  at-state : rules got ≡ c
+  at-state = ap (λ (y : State Memory). call protocol y t (length before) p) (ap stateOf is ∙ state-board s)
+
+  got-taken : r .taken ≡ c .taken
+  got-taken = is-taken got ∙ ap (λ (y : Called Order Memory). y .taken) at-state
+
+  got-board : r .board ≡ boardOf (c .said .next)
+  got-board = ap (λ (y : Call). y .board) (promise got .result) ∙ (λ i. answer (is i) (at-state i) .board) ∙ call-board s t (length before) p
+
+  got-said : saidBy r after ≡ leaves (c .said)
+  got-said =
+      let w : take (r .written) after ≡ c .said .reply = written-is got ∙ ap (λ (y : Called Order Memory). y .said .reply) at-state in
+      let o : given (r .order) ≡ c .said .orders =
+      ap given (is-order got) ∙ ap (λ (y : Called Order Memory). given (orderOf (y .said .orders))) at-state ∙ call-order s t (length before) p in
+      λ i. record { reply = w i; orders = o i; next = got-board i }
+
+  got-offer : (run rest : List (Item Event)) (x : Said Order Board) → run ≡ at t p ++ rest
+      → x ≡ leaves (steps protocol (c .said .next) (at t (drop (r .taken) p) ++ rest))
+      → then (saidBy r after) (λ _. x) ≡ leaves (steps protocol s run)
+  got-offer run rest x f e =
+      let ih = e ∙ ap (λ (k : ℕ). leaves (steps protocol (c .said .next) (at t (drop k p) ++ rest))) got-taken in
+      (λ i. then (got-said i) (λ _. ih i)) ∙ ap leaves (call-on protocol s t (length before) p rest)
+      ∙ ap (λ (l : List (Item Event)). leaves (steps protocol s l)) (sym f)
+
+  got-aside : (run : List (Item Event)) (x : Said Order Board) → r .taken ≡ 0 → x ≡ leaves (steps protocol (c .said .next) run)
+      → then (saidBy r after) (λ _. x) ≡ leaves (steps protocol s run)
+  got-aside run x f e =
+      let none : c .said ≡ quiet s = call-none protocol s t (length before) p (sym got-taken ∙ f) in
+      (λ i. then (got-said i) (λ _. e i)) ∙ (λ i. then (leaves (none i)) (λ _. leaves (steps protocol (none i .next) run)))
+
+-- every offered run says and leaves what the byte steps over it do
+offered-steps : {b : Board} {run : List (Item Event)} {x : Said Order Board} → Offered b run x → (s : State Memory) → b ≡ boardOf s
+    → x ≡ leaves (steps protocol s run)
+unfolding steps
+offered-steps (done b) s is = λ i. quiet (is i)
+offered-steps (offer b run rest x t p before after r f got h) s is =
+    got-offer got s is run rest x f (offered-steps h (call protocol s t (length before) p .said .next) (got-board got s is))
+offered-steps (aside b run x t p before after r f got h) s is =
+    got-aside got s is run x f (offered-steps h (call protocol s t (length before) p .said .next) (got-board got s is))
+
+module _ (κs : _) (a : _) (b : Board) (s : _) (is : fresh.Post κs a b s) (run : List (Item Event)) (x : Said Order Board) (h : Offered b run x) where
+  -- Demand 3: "Any finite run of stamped bytes, offered to a fresh board in any cutting, with any rooms and empty or refused calls between, ends in
+  -- what 01's rule gives for the whole run at once: replies joined, orders, settings, flags, last refused field, unfinished bytes, last stamp."
+  pub any-cutting : x ≡ leaves (wholeRun protocol freshMemory 0 run)
+  any-cutting = offered-steps h freshState is ∙ ap leaves (steps-is-whole protocol need-law freshMemory 0 run)
+
+  -- no byte is lost or invented: the run is the bytes of the units that were dealt with or dropped, in sequence, and then "Bytes of an unfinished unit
+  -- at the end of the run stay unfinished", on the board at the end
+  pub conserved : bytes run ≡ spent (unitsOf (protocol .cuts) (protocol .need) run .tokens) ++ take (x .next .count) (x .next .held)
+  unfolding wholeRun
+  conserved =
+      let end = ap (λ (y : Said Order Board). stateOf (y .next)) any-cutting ∙ state-board (wholeRun protocol freshMemory 0 run .next) in
+      units-bytes (protocol .cuts) (protocol .need) need-law run
+      ∙ ap (λ (y : State Memory). spent (unitsOf (protocol .cuts) (protocol .need) run .tokens) ++ y .line .unfinished) (sym end)
+
+-- ---- every run can be offered to its end
+
+-- one byte, in a call with the least room
+module _ (b : Board) (t x : ℕ) (sound : soundState (stateOf b) ≡ true) where
+  abbrev room : List ℕ
+  room = replicate 48 0
+
+  abbrev one : Called Order Memory
+  one = call protocol (stateOf b) t (length room) (x ∷ [])
+
+  one-taken : one .taken ≡ 1
+  one-taken =
+      let e = call-accepted protocol (stateOf b) t 48 (x ∷ []) (omega arith) (omega arith) sound in
+      let some : 0 < one .taken = rw e (accept-some (stateOf b) t 48 (x ∷ []) (omega arith) (omega arith)) in
+      omega (arith, call-steps protocol (x ∷ []) (stateOf b) t 48 .most)
+
+  one-more : (run : List (Item Event)) (y : Said Order Board) → Offered (answer b one .board) run y → (z : Said Order Board) × Offered b (byte t x ∷ run) z
+  one-more run y h =
+      let after = one .said .reply ++ drop (length (one .said .reply)) room in
+      let rest : Offered (answer b one .board) (at t (drop (one .taken) (x ∷ [])) ++ run) y =
+      subst (λ (l : List (Item Event)). Offered (answer b one .board) l y) (ap (λ (k : ℕ). at t (drop k (x ∷ [])) ++ run) (sym one-taken)) h in
+      (then (saidBy (answer b one) after) (λ _. y), offer b (byte t x ∷ run) run y t (x ∷ []) room after (answer b one) refl (receive-some b t (x ∷ []) room) rest)
+
+-- Demand 3 speaks of every run: "With a piece that is not empty, an accepted call takes at least one byte", so each run can be offered to its end
+pub offerable : (run : List (Item Event)) (b : Board) → soundState (stateOf b) ≡ true → (x : Said Order Board) × Offered b run x
+offerable [] b h = (quiet b, done b)
+offerable (byte t x ∷ run) b h =
+    let rest = offerable run (answer b (one b t x h) .board) (keeps-sound (receive-some b t (x ∷ []) (room b t x h)) h) in
+    one-more b t x h run (rest .0) (rest .1)

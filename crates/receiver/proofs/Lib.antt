@@ -1,0 +1,5 @@
+pub mod Lists
+pub mod Held
+pub mod Turns
+pub mod Calls
+pub mod Demands
