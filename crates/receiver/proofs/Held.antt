@@ -4,25 +4,17 @@ use mathlib.Core.Bool.{Bool, true, false}
 use mathlib.Core.List.{List, []}
 use Prim.Native.Nat.{ℕ, _+_, _-_, _≤_, _<_}
 use native.Mathlib.Omega.{arith}
-use lib.Dec.{ltb}
+use lib.Dec.{eqb, ltb}
 use lib.ListN.{length, getD, take, length-take}
 use lib.Seq.{getD-take, length-take-le}
-use borrow.Author.Tests.{lt-ltb, le-ltb, ltb-true, ltb-false}
+use borrow.Author.Tests.{lt-ltb, le-ltb, eqb-true, eqb-false}
 use Rattle.wire.specs.Numbers.{leAt}
 use Rattle.wire.proofs.Numbers.{leAt-take}
 use Rattle.unit.specs.Names.{kindOf, nameOf, span, replied, need, due}
 use Rattle.unit.specs.Protocol.{begun}
-use Rattle.unit.proofs.Need.{need-zero, need-name, need-span, need-some, need-most}
-use Rattle.unit.proofs.Due.{due-zero, due-inside, due-end, begun-some, quiet-name, quiet-span}
+use Rattle.unit.proofs.Need.{need-name, need-span, need-some, need-most}
+use Rattle.unit.proofs.Due.{due-open, due-whole, due-zero, due-inside, due-end, begun-some, quiet-name, quiet-span}
 use Rattle.receiver.specs.Receive.{Quiet}
-
-ltb-same : (a b c d : ℕ) → (a < b → c < d) → (c < d → a < b) → ltb a b ≡ ltb c d
-ltb-same a b c d f g = by (ltb a b) refl (ltb c d) refl
-  where
-    by : (x : Bool) → ltb a b ≡ x → (y : Bool) → ltb c d ≡ y → ltb a b ≡ ltb c d
-    by true p y q = p ∙ sym (lt-ltb c d (f (ltb-true a b p)))
-    by false p true q = lt-ltb a b (g (ltb-true c d q)) ∙ sym q
-    by false p false q = p ∙ sym q
 
 module _ (held : List ℕ) (n : ℕ) (full : length held ≡ 48) where
   abbrev u : List ℕ
@@ -99,20 +91,15 @@ module _ (held : List ℕ) (n : ℕ) (full : length held ≡ 48) where
   unfolding begun
   begun-none e = lt-ltb (length u) (need u) (rw (length-take n held) (omega (arith, need-some u)))
 
-  pub begun-zero : (n ≡ 0 → ⊥) → getD held 0 0 ≡ 0 → begun u ≡ false
+  pub begun-past : 48 < n → begun u ≡ false
   unfolding begun
-  begun-zero pos z = le-ltb (length u) (need u) (rw (length-take n held) (omega (arith, need-zero u (first (omega arith) ∙ z))))
+  begun-past h = le-ltb (length u) (need u) (rw (length-take n held) (omega (arith, need-most u)))
 
-  pub begun-name : (n ≡ 0 → ⊥) → (getD held 0 0 ≡ 0 → ⊥) → n < 4 → begun u ≡ true
-  unfolding begun
-  begun-name pos s h =
-      let l = long (omega arith) in
-      lt-ltb (length u) (need u) (omega (arith, need-name u (some (omega arith) s) (omega arith)))
-
-  pub begun-span : (getD held 0 0 ≡ 0 → ⊥) → 4 ≤ n → (name : ℕ) → name ≡ leAt 4 0 held → (k : ℕ) → k ≡ span (kindOf name) → ltb n k ≡ begun u
-  unfolding begun
-  begun-span s four name is k spans =
-      let e = need-is name is four s in
-      let m = need-most u in
-      let l = length-take n held in
-      ltb-same n k (length u) (need u) (λ h. omega arith) (λ h. omega arith)
+-- a unit has begun where no reply is due
+pub begun-due : (u : List ℕ) (n : ℕ) → n ≡ due u → eqb n 0 ≡ begun u
+unfolding begun
+begun-due u n e = by (eqb n 0) refl
+  where
+    by : (y : Bool) → eqb n 0 ≡ y → y ≡ ltb (length u) (need u)
+    by true p = sym (lt-ltb (length u) (need u) (due-open u (sym e ∙ eqb-true n 0 p)))
+    by false p = sym (le-ltb (length u) (need u) (due-whole u (omega (arith, e, eqb-false n 0 p))))

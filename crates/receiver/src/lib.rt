@@ -118,12 +118,10 @@ fn readied(board: Board, stamp: u32) -> Board
     next
 }
 
-// The board once a unit has ended: nothing is unfinished.
-fn emptied(said: Judged, stamp: u32) -> Board
-    ensures { λ r. ⌜ r ≡ record { settings = said .settings; notes = said .notes; held = padded []; count = 0; stamp = stamp } ⌝ }
+// A board with nothing unfinished.
+fn idle(settings: Settings, notes: Notes, stamp: u32) -> Board
+    ensures { λ r. ⌜ r ≡ record { settings = settings; notes = notes; held = padded []; count = 0; stamp = stamp } ⌝ }
 {
-    let settings = said.settings;
-    let notes = said.notes;
     Board {
         settings,
         notes,
@@ -131,6 +129,15 @@ fn emptied(said: Judged, stamp: u32) -> Board
         count: 0,
         stamp,
     }
+}
+
+// The board once a unit has ended.
+fn emptied(said: Judged, stamp: u32) -> Board
+    ensures { λ r. ⌜ r ≡ record { settings = said .settings; notes = said .notes; held = padded []; count = 0; stamp = stamp } ⌝ }
+{
+    let settings = said.settings;
+    let notes = said.notes;
+    idle(settings, notes, stamp)
 }
 
 fn over(taken: usize, written: usize, order: Order, board: Board) -> Call
@@ -190,7 +197,7 @@ fn run(board: Board, piece: &[u8], reply: &mut [u8]) -> Call
     over(i, w, Order::Nothing, cur)
 }
 
-// Whether n bytes in held are none, or a true beginning of one unit.
+// Whether n bytes in held are none, or a true beginning of one unit: the last of them causes no reply.
 fn is_begun(held: &[u8; 48], n: usize) -> bool
     requires { ⌜ length (now held) ≡ 48 ⌝ }
     ensures { λ r. ⌜ r ≡ begun (take n (now (held .entry))) ⌝ }
@@ -198,14 +205,10 @@ fn is_begun(held: &[u8; 48], n: usize) -> bool
     if n == 0 {
         return true;
     }
-    if held[0] == 0 {
+    if 48 < n {
         return false;
     }
-    if n < 4 {
-        return true;
-    }
-    let name = wire::u32_at(held, 0);
-    n < unit::names::span_of(name)
+    due_for(held, n) == 0
 }
 
 // 01's list of what a sound state is.
@@ -239,17 +242,12 @@ fn refuse(number: u8, board: Board) -> Call
 pub fn fresh() -> Board
     ensures { λ r. ⌜ r ≡ boardOf freshState ⌝ }
 {
-    Board {
-        settings: Settings::fresh(),
-        notes: Notes {
-            flags: 0,
-            block: 0,
-            field: 0,
-        },
-        held: [0u8; 48],
-        count: 0,
-        stamp: 0,
-    }
+    let notes = Notes {
+        flags: 0,
+        block: 0,
+        field: 0,
+    };
+    idle(Settings::fresh(), notes, 0)
 }
 
 // One call: a piece of bytes that share a stamp, and room for the replies.

@@ -11,3 +11,4 @@ pub mod First
 pub mod Bytes
 pub mod Largest
 pub mod Numbered
+pub mod Waits

@@ -7,3 +7,4 @@ pub mod Due
 pub mod Sound
 pub mod Kept
 pub mod Cases
+pub mod One

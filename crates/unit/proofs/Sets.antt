@@ -13,10 +13,17 @@ use Rattle.wire.specs.Numbers.{leBytes}
 use Rattle.sheet.specs.Names.{named}
 use Rattle.settings.specs.declared.Settings.{Settings}
 use Rattle.settings.specs.Settings.{putAt, badAt}
+use Rattle.rule.specs.Rule.{Said}
 use Rattle.unit.specs.Names.{nameOf}
 use Rattle.unit.specs.Unit.{Memory, dataIn, intact, flag, puts, checked, damaged, outOfRange, stored, Judges}
 use Rattle.unit.specs.declared.Notes.{Notes}
+use Rattle.unit.specs.declared.Judged.{Judged}
+use Rattle.unit.specs.declared.names.Order.{Order}
 use Rattle.unit.specs.declared.names.Order.the-variants.{Nothing}
+
+-- an answer that is another's
+pub answered-as : {a : Said Order Memory} {before after : List ℕ} {d e : Judged} → d ≡ e → Judges a before e after → Judges a before d after
+answered-as p j = record { result = p ∙ j .result; reply = j .reply }
 
 -- an intact unit has a name and a CRC
 pub intact-long : (u : List ℕ) → intact u ≡ true → 6 ≤ length u

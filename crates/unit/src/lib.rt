@@ -6,7 +6,7 @@ use names::Order;
 use settings::Settings;
 ghost use mathlib.Core.Path.{_≡_};
 ghost use lib.Seq.{sets};
-ghost use Rattle.sheet.specs.Rows.{rowAt, total};
+ghost use Rattle.unit.specs.declared.names.Order.the-variants.{Nothing};
 ghost use Rattle.unit.specs.Unit.{memory, flag, intact, puts, gets, answered, Judges};
 
 // What a unit can change besides the settings: the flags, the last refused block and field.
@@ -37,6 +37,16 @@ fn flagged(notes: Notes, bit: u8) -> Notes
     next
 }
 
+fn no_order(settings: Settings, notes: Notes) -> Judged
+    ensures { λ r. ⌜ r ≡ record { order = Nothing; settings = settings; notes = notes } ⌝ }
+{
+    Judged {
+        order: Order::Nothing,
+        settings,
+        notes,
+    }
+}
+
 // Whether the CRC in a unit's last two bytes is that of its data section.
 fn is_intact(unit: &[u8]) -> bool
     ensures { λ r. ⌜ r ≡ intact (now (unit .entry)) ⌝ }
@@ -58,11 +68,7 @@ fn answer_get(settings: Settings, notes: Notes, name: u32, k: usize, reply: &mut
     wire::put(reply, 0, 4, name as u64);
     wire::copy(reply, 4, &section[..n]);
     wire::put(reply, 4 + n, 2, crc::crc(&section[..n]) as u64);
-    Judged {
-        order: Order::Nothing,
-        settings,
-        notes,
-    }
+    no_order(settings, notes)
 }
 
 // A set's answer: the CRC first, then the fields; stored whole or not at all.
@@ -71,11 +77,7 @@ fn answer_set(settings: Settings, notes: Notes, k: usize, unit: &[u8], reply: &m
 {
     if !is_intact(unit) {
         wire::put(reply, 0, 4, ERRD);
-        return Judged {
-            order: Order::Nothing,
-            settings,
-            notes: flagged(notes, 2),
-        };
+        return no_order(settings, flagged(notes, 2));
     }
     let end = unit.len() - 2;
     let next = settings.put(k, &unit[4..end]);
@@ -88,18 +90,10 @@ fn answer_set(settings: Settings, notes: Notes, k: usize, unit: &[u8], reply: &m
             block: k,
             field: bad,
         };
-        return Judged {
-            order: Order::Nothing,
-            settings,
-            notes: refused,
-        };
+        return no_order(settings, refused);
     }
     wire::put(reply, 0, 4, wire::u32_at(unit, 0) as u64);
-    Judged {
-        order: Order::Nothing,
-        settings: next,
-        notes,
-    }
+    no_order(next, notes)
 }
 
 // The answer to a whole unit that begins with a name.
@@ -125,11 +119,7 @@ pub fn answer(settings: Settings, notes: Notes, unit: &[u8], reply: &mut [u8]) -
         }
         Kind::Unknown => {
             wire::put(reply, 0, 4, ERRC);
-            return Judged {
-                order: Order::Nothing,
-                settings,
-                notes: flagged(notes, 1),
-            };
+            return no_order(settings, flagged(notes, 1));
         }
     }
 }

@@ -11,6 +11,7 @@ use Rattle.unit.specs.declared.Notes.{Notes}
 use Rattle.unit.specs.declared.Judged.{Judged}
 use Rattle.unit.specs.declared.names.Order.the-variants.{Nothing}
 use Rattle.unit.specs.declared.names.Kind.{Kind}
+use Rattle.unit.proofs.Sets.{answered-as}
 use Rattle.unit.proofs.answer.Statement.{statement}
 use Rattle.unit.proofs.answer.Tie as tie
 
@@ -50,13 +51,15 @@ returns-3 c =
 
 returns-4 : tie.Need-returns-4
 unfolding does
-returns-4 c =
+returns-4 r =
+    let c = r .before in
     let told = c .before .before .before .before .before in
     let k = told .before .before .kind-of in
     let u = told .before .before .before in
     let a = u .before .before .before .args in
-    by-kind _ _ _ _ _ (u .u32-at .result) (k .result) _ (u .u32-at .ensures) (k .ensures) (told .enum-told .given .1)
-    (record { result = ap (λ (n : Notes). record { order = Nothing; settings = a .settings; notes = n }) (c .flagged .ensures); reply = c .before .before .before .put2 .ensures })
+    answered-as (r .no-order .ensures)
+    (by-kind _ _ _ _ _ (u .u32-at .result) (k .result) _ (u .u32-at .ensures) (k .ensures) (told .enum-told .given .1)
+    (record { result = ap (λ (n : Notes). record { order = Nothing; settings = a .settings; notes = n }) (c .flagged .ensures); reply = c .before .before .before .put2 .ensures }))
 
 pub answer-spec : {M : Type 1} → statement M
 answer-spec =
@@ -78,6 +81,7 @@ answer-spec =
     (λ c. search needs)
     returns-3
     (λ c. search needs)
+    (λ c κs. search needs)
     (λ c κs. search needs)
     (λ c κs. search needs)
     (λ c. search needs)

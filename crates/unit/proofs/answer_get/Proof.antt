@@ -3,6 +3,7 @@ use mathlib.Core.Path.{_≡_, refl, sym, _∙_}
 use lib.Seq.{length-take-le}
 use borrow.Author.Needs.{needs}
 use Rattle.unit.specs.Unit.{memory}
+use Rattle.unit.proofs.Sets.{answered-as}
 use Rattle.unit.proofs.Gets.{section-room, says-got}
 use Rattle.unit.proofs.answer_get.Statement.{statement}
 use Rattle.unit.proofs.answer_get.Tie as tie
@@ -36,15 +37,17 @@ slice-aggregate-crc c =
     sym (length-take-le _ _ (section-room (memory (a .settings) (a .notes)) (a .k) _ (t .total-of .ensures) _ _ refl (g .get .ensures)))
 
 returns : tie.Need-returns
-returns c =
+returns r =
+    let c = r .before in
     let crc = c .before .before .before in
     let copy = crc .before .before .before .before .before in
     let put = copy .before .before .before .before .before in
     let t = put .before .before in
     let g = t .before .before in
     let a = g .before .before .before .args in
-    says-got (memory (a .settings) (a .notes)) (a .k) _ (t .total-of .ensures) _ _ refl (g .get .ensures) (a .name) _ _ _ _ _
-    (put .put .ensures) (copy .copy .ensures) (c .before .before .put2 .ensures) (crc .crc .ensures)
+    answered-as (r .no-order .ensures)
+    (says-got (memory (a .settings) (a .notes)) (a .k) _ (t .total-of .ensures) _ _ refl (g .get .ensures) (a .name) _ _ _ _ _
+    (put .put .ensures) (copy .copy .ensures) (c .before .before .put2 .ensures) (crc .crc .ensures))
 
 pub answer-get-spec : {M : Type 1} → statement M
 answer-get-spec =
@@ -64,5 +67,6 @@ answer-get-spec =
     (λ c κs. search needs)
     (λ c. search needs)
     (λ c κs. search needs)
-    (λ c. search needs)
+    (λ c κs. search needs)
+    (λ c. c .before .before .before .put2 .kept .0 ∙ c .before .before .before .before .before .before .before .before .before .copy .kept .0 ∙ c .before .before .before .before .before .before .before .before .before .before .before .before .before .before .put .kept .0)
     returns)

@@ -8,16 +8,18 @@ use borrow.Author.Needs.{needs}
 use borrow.Author.Tests.{not-true, not-false}
 use Rattle.wire.specs.Numbers.{leBytes}
 use Rattle.unit.specs.Unit.{memory}
-use Rattle.unit.proofs.Sets.{intact-long, next-is, found-is, says-damaged, says-refused, says-stored}
+use Rattle.unit.proofs.Sets.{answered-as, intact-long, next-is, found-is, says-damaged, says-refused, says-stored}
 use Rattle.unit.proofs.answer_set.Statement.{statement}
 use Rattle.unit.proofs.answer_set.Tie as tie
 
 returns : tie.Need-returns
-returns c =
+returns r =
+    let c = r .before in
     let at = c .before .before .before .before .before in
     let a = at .before .before .before .before .args in
-    says-damaged (memory (a .settings) (a .notes)) (a .k) (a .unit .now) _ _ _ (sym (at .before .is-intact .ensures) ∙ not-true _ (at .if1 .taken)) (c .flagged .ensures)
-    (c .before .before .before .put .ensures)
+    answered-as (r .no-order .ensures)
+    (says-damaged (memory (a .settings) (a .notes)) (a .k) (a .unit .now) _ _ _ (sym (at .before .is-intact .ensures) ∙ not-true _ (at .if1 .taken)) (c .flagged .ensures)
+    (c .before .before .before .put .ensures))
 
 -- past the first test the unit is intact
 sub-end : tie.Need-sub-end
@@ -36,32 +38,37 @@ part-put-start c =
     omega arith
 
 returns-2 : tie.Need-returns-2
-returns-2 c =
+returns-2 r =
+    let c = r .before in
     let bad = c .before .before .before .before .before .before in
     let at = bad .before .before .before in
     let a = at .before .before .before .before .args in
     let m = memory (a .settings) (a .notes) in
-    says-refused m (a .k) (a .unit .now) _ _ (bad .first-bad .result) (sym (at .before .is-intact .ensures) ∙ not-false _ (at .if1 .left))
+    answered-as (r .no-order2 .ensures)
+    (says-refused m (a .k) (a .unit .now) _ _ (bad .first-bad .result) (sym (at .before .is-intact .ensures) ∙ not-false _ (at .if1 .left))
     (found-is m (a .k) (a .unit .now) (bad .before .put2 .result) (bad .before .put2 .ensures) _ (bad .first-bad .ensures))
-    (c .before .before .before .before .before .if2 .taken) (c .before .before .before .put3 .ensures)
+    (c .before .before .before .before .before .if2 .taken) (c .before .before .before .put3 .ensures))
 
 returns-3 : tie.Need-returns-3
-returns-3 c =
+returns-3 r =
+    let c = r .before in
     let bad = c .before .before .before .before .before .before in
     let at = bad .before .before .before in
     let a = at .before .before .before .before .args in
     let m = memory (a .settings) (a .notes) in
     let put = bad .before .put2 in
-    says-stored m (a .k) (a .unit .now) (a .reply .now) _ (put .result) (bad .first-bad .result) (sym (at .before .is-intact .ensures) ∙ not-false _ (at .if1 .left))
+    answered-as (r .no-order3 .ensures)
+    (says-stored m (a .k) (a .unit .now) (a .reply .now) _ (put .result) (bad .first-bad .result) (sym (at .before .is-intact .ensures) ∙ not-false _ (at .if1 .left))
     (next-is m (a .k) (a .unit .now) (put .result) (put .ensures))
     (found-is m (a .k) (a .unit .now) (put .result) (put .ensures) _ (bad .first-bad .ensures))
     (c .before .before .before .before .before .if2 .left)
-    (c .before .before .put4 .ensures ∙ ap (λ (n : ℕ). sets (a .reply .now) 0 (leBytes 4 n)) (c .before .before .before .u32-at .ensures))
+    (c .before .before .put4 .ensures ∙ ap (λ (n : ℕ). sets (a .reply .now) 0 (leBytes 4 n)) (c .before .before .before .u32-at .ensures)))
 
 pub answer-set-spec : {M : Type 1} → statement M
 answer-set-spec =
     tie.close
     (tie.spec
+    (λ c κs. search needs)
     (λ c κs. search needs)
     (λ c κs. search needs)
     (λ c κs. search needs)
@@ -74,10 +81,12 @@ answer-set-spec =
     (λ c κs. search needs)
     (λ c κs. search needs)
     (λ c κs. search needs)
+    (λ c κs. search needs)
     (λ c. search needs)
     returns-2
     (λ c κs. search needs)
     (λ c. search needs)
+    (λ c κs. search needs)
     (λ c κs. search needs)
     (λ c. search needs)
     returns-3)
