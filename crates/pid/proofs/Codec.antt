@@ -7,7 +7,6 @@ use lib.ListN.{getD}
 use lib.Ieee.{binary32, fits}
 use lib.Ieee.Bits.{ofBits-toBits, toBits-lt}
 use Rattle.wire.specs.Layout.{Room}
-use Rattle.wire.specs.Tests.{firstFalse}
 use Rattle.wire.proofs.Laid.{room-listed, room-at}
 use Rattle.wire.proofs.Tests.{all-of}
 use Rattle.wire.proofs.Values.{bits-back, bits-judged}

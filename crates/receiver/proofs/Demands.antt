@@ -7,29 +7,34 @@ use mathlib.Core.List.{List, [], _∷_, _++_}
 use native.Mathlib.Omega.{arith}
 use denote.Ref.{RefT, now}
 use lib.Dec.{eqb, ltb}
-use lib.ListN.{length, take, drop, replicate}
+use lib.ListN.{length, getD, take, drop, replicate}
 use lib.Seq.{take-append-seam, drop-append-seam}
 use Rattle.promise.specs.Promise.{Leaves}
+use Rattle.sheet.specs.Rows.{rowAt, canonical}
 use Rattle.rule.specs.Run.{Item, byte, bytes, at}
-use Rattle.rule.specs.Framing.{unitsOf}
-use Rattle.rule.specs.Rule.{Said, quiet, then, State, wholeRun}
+use Rattle.rule.specs.Framing.{Token, whole, unitsOf}
+use Rattle.rule.specs.Rule.{Said, quiet, then, State, deal, wholeRun}
 use Rattle.rule.specs.Step.{step, steps}
 use Rattle.rule.specs.Calls.{Called, call}
 use Rattle.rule.specs.Facts as facts
 use Rattle.rule.specs.Facts.{spent, Stopped, Largest}
 use Rattle.rule.proofs.Steps.{steps-is-whole}
-use Rattle.rule.proofs.Calls.{call-steps, call-on, call-none}
+use Rattle.rule.proofs.Calls.{call-steps, call-on, call-none, call-stamp}
 use Rattle.rule.proofs.Progress.{accept-stops}
 use Rattle.rule.proofs.Largest.{accept-largest, largest-one}
 use Rattle.rule.proofs.Bytes.{units-bytes}
 use Rattle.rule.proofs.Numbered.{Accepted, call-accepted, call-number, call-zero, call-fits}
-use Rattle.unit.specs.Unit.{Memory, Event, freshMemory, orderOf}
+use Rattle.unit.specs.Names.{kindOf, nameOf}
+use Rattle.unit.specs.Unit.{Memory, Event, freshMemory, dataIn, act, orderOf}
 use Rattle.unit.specs.Protocol.{protocol, soundState, freshState}
 use Rattle.unit.proofs.Need.{need-law}
 use Rattle.unit.proofs.Replies.{given}
+use Rattle.unit.proofs.Kept.{Accepts, Without}
+use Rattle.unit.proofs.Runs.{getReply, run-get-after-set}
 use Rattle.unit.proofs.Sound as sound
 use Rattle.unit.specs.declared.names.Order.{Order}
 use Rattle.unit.specs.declared.names.Order.the-variants.{Nothing}
+use Rattle.unit.specs.declared.names.Kind.the-variants.{Get}
 use Rattle.receiver.specs.State.{stateOf, boardOf}
 use Rattle.receiver.specs.Receive.{answer, Received}
 use Rattle.receiver.specs.declared.Board.{Board}
@@ -141,6 +146,10 @@ module _ {b : Board} {t : ℕ} {p before after : List ℕ} {r : Call} (got : Ans
   -- "An empty piece changes nothing, the last stamp included."
   pub empty : length p ≡ 0 → Untouched b before r after
   empty h = untouched (is-taken ∙ omega (arith, call-steps protocol p (stateOf b) t (length before) .most))
+
+  -- "Each byte taken sets the last stamp."
+  pub stamped : 0 < r .taken → r .board .stamp ≡ t
+  stamped h = ap (λ (y : State Memory). y .line .last) is-state ∙ call-stamp protocol (stateOf b) t (length before) p (rw is-taken at h)
 
   -- "Each reply is written straight behind the one before it in the same buffer": what is written is what the rule says, and it fits
   pub written-is : take (r .written) after ≡ rules .said .reply
@@ -273,6 +282,17 @@ module _ (κs : _) (a : _) (b : Board) (s : _) (is : fresh.Post κs a b s) (run 
       let end = ap (λ (y : Said Order Board). stateOf (y .next)) any-cutting ∙ state-board (wholeRun protocol freshMemory 0 run .next) in
       units-bytes (protocol .cuts) (protocol .need) need-law run
       ∙ ap (λ (y : State Memory). spent (unitsOf (protocol .cuts) (protocol .need) run .tokens) ++ y .line .unfinished) (sym end)
+
+  -- Demand 2: "After an accepted set, the get of that block returns the same fields, reserved bytes zero, until the next accepted set of that block":
+  -- in a run of bytes, the set u, then the get g of its block with no accepted set of the block between them
+  pub get-after-set : (before between after : List (Token Event)) (u g : List ℕ) (k : ℕ) → ((i : ℕ) → getD (bytes run) i 0 < 256)
+      → unitsOf (protocol .cuts) (protocol .need) run .tokens ≡ before ++ (whole u ∷ between ++ (whole g ∷ after))
+      → let m = deal protocol freshMemory before .next in Accepts m u k → Without k (act m (whole u) .next) between
+      → (getD g 0 0 ≡ 0 → ⊥) → kindOf (nameOf g) ≡ Get k
+      → let y = deal protocol freshMemory (before ++ (whole u ∷ between)) in
+      x .reply ≡ y .reply ++ (getReply k (canonical (rowAt k) (dataIn u)) ++ deal protocol (y .next) after .reply)
+  get-after-set before between after u g k low cut a w starts get =
+      ap (λ (y : Said Order Board). y .reply) any-cutting ∙ run-get-after-set freshMemory 0 run before between after u g k low cut a w starts get
 
 -- ---- every run can be offered to its end
 

@@ -5,7 +5,7 @@ use Prim.Native.Nat.{ℕ, suc, _+_, _-_, _≤_, _<_}
 use native.Mathlib.Nat.{add-zero}
 use native.Mathlib.Numerals.{add-one}
 use native.Mathlib.Omega.{arith}
-use lib.ListN.{length, getD, set, take, drop, replicate, length-append, length-replicate, length-drop, drop-of-length-le}
+use lib.ListN.{length, set, take, drop, replicate, length-append, length-replicate, drop-of-length-le}
 use lib.Seq.{sets, sets-eq, length-sets, set-at, set-set, length-take-le, take-at, drop-at, take-append-seam}
 use borrow.Rule.Slice.PartMut.{midOf, putMid}
 use Rattle.wire.proofs.Stores.{sets-rest}

@@ -1,11 +1,12 @@
 -- A call is the byte step over the bytes it took.
-use Prim.Native.Nat.{ℕ}
+use Prim.Native.Nat.{ℕ, _<_}
 use mathlib.Core.Path.{_≡_, refl, ap, sym, _∙_}
 use mathlib.Core.List.{List, [], _∷_, _++_, append-assoc}
 use native.Mathlib.Omega.{arith}
 use lib.Dec.{ltb}
 use lib.ListN.{length, take, drop, take-append-drop}
-use Rattle.rule.specs.Run.{Item, byte, at}
+use lib.Seq.{length-take-le}
+use Rattle.rule.specs.Run.{Item, byte, lastStamp, at}
 use Rattle.rule.specs.Rule.{Said, quiet, then, State, Protocol}
 use Rattle.rule.specs.Step.{steps}
 use Rattle.rule.specs.Calls.{none, accept, call}
@@ -13,7 +14,7 @@ use Rattle.rule.specs.Facts.{says, TakesSteps}
 use Rattle.rule.proofs.Choice.{either}
 use Rattle.rule.proofs.Accept.{accept-by}
 use Rattle.rule.proofs.Said.{then-quiet}
-use Rattle.rule.proofs.Steps.{steps-append}
+use Rattle.rule.proofs.Steps.{steps-append, steps-last}
 
 pub at-append : {E : Type 0} (t : ℕ) (u w : List ℕ) → at {E = E} t (u ++ w) ≡ at t u ++ at t w
 at-append {E} t [] w = refl
@@ -57,3 +58,18 @@ module _ {E O M : Type 0} (p : Protocol E O M) where
   pub call-none : (s : State M) (t room : ℕ) (piece : List ℕ) → call p s t room piece .taken ≡ 0 → call p s t room piece .said ≡ quiet s
   unfolding steps
   call-none s t room piece e = call-steps piece s t room .same ∙ ap (λ (k : ℕ). steps p s (at t (take k piece))) e
+
+  -- bytes that share a stamp leave it as the last one
+  at-last : (t s : ℕ) (u : List ℕ) → 0 < length u → lastStamp {E = E} s (at t u) ≡ t
+  unfolding lastStamp
+  at-last t s [] h = absurd (omega arith)
+  at-last t s (b ∷ []) h = refl
+  at-last t s (b ∷ c ∷ u) h = at-last t t (c ∷ u) (omega arith)
+
+  -- "Each byte taken sets the last stamp."
+  pub call-stamp : (s : State M) (t room : ℕ) (piece : List ℕ) → let c = call p s t room piece in 0 < c .taken → c .said .next .line .last ≡ t
+  call-stamp s t room piece some =
+      let is = call-steps piece s t room in
+      let u = take (call p s t room piece .taken) piece in
+      ap (λ (a : Said O (State M)). a .next .line .last) (is .same) ∙ steps-last p (at t u) s
+      ∙ at-last t (s .line .last) u (omega (arith, length-take-le (call p s t room piece .taken) piece (is .most)))

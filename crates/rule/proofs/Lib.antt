@@ -1,4 +1,5 @@
 pub mod Choice
+pub mod Waits
 pub mod Said
 pub mod Front
 pub mod Framing
@@ -9,6 +10,6 @@ pub mod Loop
 pub mod Progress
 pub mod First
 pub mod Bytes
+pub mod Whole
 pub mod Largest
 pub mod Numbered
-pub mod Waits

@@ -1,5 +1,5 @@
 -- What a loop over the piece's bytes needs of `accept`: the wait is met once, before the first byte, and `later` goes on turn by turn.
-use Prim.Native.Nat.{ℕ, suc, _+_, _-_, _%_, _<_, _≤_}
+use Prim.Native.Nat.{ℕ, suc, _+_, _-_, _<_, _≤_}
 use mathlib.Core.Path.{_≡_, refl, ap, sym, _∙_}
 use mathlib.Core.Bool.{Bool, true, false}
 use mathlib.Core.List.{List, [], _∷_, _++_, append-assoc, append-nil}
@@ -7,8 +7,8 @@ use native.Mathlib.Omega.{arith}
 use native.Mathlib.Nat.{add-zero, zero-add, sub-zero}
 use lib.Dec.{leb}
 use lib.ListN.{length, take}
-use borrow.Author.Tests.{le-leb, lt-leb, le-ltb}
-use Rattle.rule.specs.Run.{byte, wait, late}
+use borrow.Author.Tests.{le-leb, lt-leb}
+use Rattle.rule.specs.Run.{byte, late}
 use Rattle.rule.specs.Framing.{whole}
 use Rattle.rule.specs.Rule.{quiet, State, with-line, Protocol, deal}
 use Rattle.rule.specs.Step.{settle, feed, feedOn, step}
@@ -18,10 +18,7 @@ use Rattle.rule.specs.Facts.{says, Silent}
 use Rattle.rule.proofs.Said.{then-quiet}
 use Rattle.rule.proofs.Framing.{settle-whole, settle-part}
 use Rattle.rule.proofs.Accept.{accept-by}
-
-pub late-self : (t : ℕ) → late t t ≡ false
-unfolding late wait
-late-self t = le-ltb 400 ((t + 4294967296 - t) % 4294967296) (omega arith)
+use Rattle.rule.proofs.Waits.{late-self}
 
 next-count : (k n : ℕ) → k + suc n ≡ k + 1 + n
 next-count k n = omega arith

@@ -2,7 +2,7 @@
 use Prim.Native.Nat.{ℕ}
 use mathlib.Core.Path.{_≡_, refl, ap, sym, _∙_}
 use mathlib.Core.List.{List, [], _∷_, _++_}
-use Rattle.rule.specs.Run.{Item}
+use Rattle.rule.specs.Run.{Item, lastStamp}
 use Rattle.rule.specs.Framing.{Needs}
 use Rattle.rule.specs.Rule.{Said, then, Line, State, with-line, Protocol, deal, wholeRun}
 use Rattle.rule.specs.Step.{feed, feeds, step, steps}
@@ -26,6 +26,10 @@ module _ {E O M : Type 0} (p : Protocol E O M) where
       let f = feed (p .cuts) (p .need) (s .line) x in
       let g = feeds (p .cuts) (p .need) (f .line) r in
       rw (steps-feeds r (step p s x .next)) (ap (with-line (g .line)) (sym (deal-append p (f .tokens) (g .tokens) (s .memory))))
+
+  -- "Each byte taken sets the last stamp."
+  pub steps-last : (r : List (Item E)) (s : State M) → steps p s r .next .line .last ≡ lastStamp (s .line .last) r
+  steps-last r s = ap (λ (a : Said O (State M)). a .next .line .last) (steps-feeds r s) ∙ feeds-last (p .cuts) (p .need) r (s .line)
 
   -- THE BYTE STEP OVER ANY RUN, FROM NOTHING UNFINISHED, IS THE WHOLE-RUN RULE
   pub steps-is-whole : Needs (p .need) → (m : M) (t : ℕ) (r : List (Item E))

@@ -1,7 +1,7 @@
 -- The wait by cases, and what a clock that runs back reads as (01, "How a run of bytes is read"). Assumes nothing.
 use mathlib.Core.Path.{_≡_}
 use mathlib.Core.Bool.{true, false}
-use Prim.Native.Nat.{ℕ, _+_, _-_, _%_, _≤_, _<_}
+use Prim.Native.Nat.{ℕ, _+_, _-_, _≤_, _<_}
 use native.Mathlib.Omega.{arith}
 use borrow.Author.Tests.{lt-ltb, le-ltb}
 use Rattle.rule.specs.Run.{wait, late}
@@ -23,6 +23,11 @@ module _ (later earlier : ℕ) where
   pub too-late : 400 < wait later earlier → late later earlier ≡ true
   unfolding late
   too-late h = lt-ltb 400 (wait later earlier) h
+
+-- bytes of one call share a stamp
+pub late-self : (t : ℕ) → late t t ≡ false
+unfolding wait
+late-self t = in-time t t (omega arith)
 
 -- "A clock that runs back by less than 4,294,966,896 therefore reads as a long wait"
 pub back-late : (later back : ℕ) → 0 < back → back < 4294966896 → later + back < 4294967296 → late later (later + back) ≡ true

@@ -1,5 +1,5 @@
 -- What the length of the reply that is due tells of a unit, and how far a unit surely goes on: the tests of the receive loop. Assumes nothing.
-use mathlib.Core.Path.{_≡_, refl, sym, ap, _∙_}
+use mathlib.Core.Path.{_≡_, refl, sym, _∙_}
 use mathlib.Core.List.{List, [], _∷_, _++_}
 use Prim.Native.Nat.{ℕ, _+_, _-_, _≤_, _<_}
 use native.Mathlib.Omega.{arith}
@@ -10,7 +10,7 @@ use Rattle.sheet.specs.Rows.{rowAt, total}
 use Rattle.sheet.specs.Sheet.{Row}
 use Rattle.rule.proofs.Choice.{eitherBy}
 use Rattle.unit.specs.Names.{kindOf, nameOf, span, replied, need, due}
-use Rattle.unit.proofs.Need.{need-zero, need-name, need-span, need-four, need-append, need-some, first-append}
+use Rattle.unit.proofs.Need.{need-zero, need-span, need-four, need-append, first-append}
 use Rattle.unit.specs.declared.names.Kind.{Kind}
 use Rattle.unit.specs.declared.names.Kind.the-variants.{Set, Get, Gives, Unknown}
 

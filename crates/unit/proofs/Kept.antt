@@ -1,102 +1,35 @@
--- What the settings keep: only an accepted set alters them, and a get sends what the last accepted set of its block brought. Assumes nothing.
+-- What the settings keep: only an accepted set alters them, and a block keeps its data until the next accepted set of it. Assumes nothing.
 use mathlib.Core.Path.{_≡_, refl, sym, ap, _∙_}
-use mathlib.Core.Bool.{Bool, true, false, cond}
-use mathlib.Core.List.{List, [], _∷_, _++_, append-assoc}
-use Prim.Native.Nat.{ℕ, _+_, _-_, _<_, _≤_}
+use mathlib.Core.Bool.{Bool, true, false}
+use mathlib.Core.List.{List, [], _∷_}
+use Prim.Native.Nat.{ℕ}
 use native.Mathlib.Omega.{arith}
-use lib.Dec.{eqb, ltb}
-use lib.ListN.{length, getD, take, drop, length-take, length-drop, List·getD-eq-default}
-use lib.Seq.{getD-take, getD-drop}
-use borrow.Author.Tests.{eqb-true, eqb-false, ltb-true, ltb-false, eq-eqb, ne-eqb}
-use Rattle.crc.specs.Crc.{crcOf}
+use lib.Dec.{eqb}
+use lib.ListN.{getD}
+use borrow.Author.Tests.{eqb-true, eqb-false}
 use Rattle.wire.specs.Numbers.{leBytes}
-use Rattle.wire.specs.Layout.{sum}
 use Rattle.sheet.specs.Names.{named}
-use Rattle.sheet.specs.Sheet.{Row, sheet}
-use Rattle.sheet.specs.Rows.{rowAt, widths, total, canonical}
+use Rattle.sheet.specs.Sheet.{Row}
+use Rattle.sheet.specs.Rows.{rowAt}
 use Rattle.sheet.proofs.Table.{each-row}
 use Rattle.settings.specs.Settings.{dataAt, putAt, badAt}
-use Rattle.settings.proofs.Keep.{get-same, get-other, bad-put}
-use Rattle.rule.specs.Run.{Item}
-use Rattle.rule.specs.Framing.{Token, whole, lost, seen, unitsOf}
-use Rattle.rule.specs.Rule.{Said, deal, wholeRun}
-use Rattle.rule.proofs.Choice.{either, eitherBy}
-use Rattle.rule.proofs.Said.{deal-append}
-use Rattle.unit.specs.Names.{setBlock, getBlock, orderKind, kindOf, nameOf}
-use Rattle.unit.specs.Unit.{Memory, Event, dataIn, intact, gets, stored, does, zeroed, act}
+use Rattle.settings.proofs.Keep.{get-other}
+use Rattle.rule.specs.Framing.{Token, whole, lost, seen}
+use Rattle.rule.specs.Rule.{Said, deal}
+use Rattle.rule.proofs.Choice.{eitherBy}
+use Rattle.unit.specs.Names.{kindOf, nameOf}
+use Rattle.unit.specs.Unit.{Memory, Event, dataIn, intact, gets, stored, does, act}
 use Rattle.unit.specs.Protocol.{protocol}
 use Rattle.unit.specs.declared.names.Order.{Order}
-use Rattle.unit.specs.declared.names.Order.the-variants.{Stop, Sstp, Pwof, Left, Rigt, Home, Loft}
 use Rattle.unit.specs.declared.names.Kind.{Kind}
 use Rattle.unit.specs.declared.names.Kind.the-variants.{Set, Get, Gives, Unknown}
 use Rattle.unit.proofs.Sets.{puts-damaged, puts-refused, puts-stored}
+use Rattle.unit.proofs.Replies.{act-zero, act-named}
+use Rattle.unit.proofs.Named.{set-named}
 
--- ---- the names of sets and gets
-
--- each of the rows is the row of its own number
-data Own : List Row → Type 0 where
-  none : Own []
-  own : {r : Row} {rs : List Row} → rowAt (r .number) ≡ r → Own rs → Own (r ∷ rs)
-
-sheet-own : Own sheet
-sheet-own = own refl (own refl (own refl (own refl (own refl (own refl (own refl none))))))
-
--- the block that has this name, for either kind of name
-abbrev found : (Row → ℕ) → List Row → ℕ → ℕ
-found name [] n = 0
-found name (r ∷ rs) n = cond (eqb n (name r)) (r .number) (found name rs n)
-
-found-named : (name : Row → ℕ) (n : ℕ) (rs : List Row) → Own rs → 0 < found name rs n → n ≡ name (rowAt (found name rs n))
-found-named name n [] none h = absurd (omega arith)
-found-named name n (r ∷ rs) (own e o) h =
-    eitherBy (λ (k : ℕ). 0 < k → n ≡ name (rowAt k)) (eqb n (name r)) (r .number) (found name rs n)
-    (λ p _. eqb-true n (name r) p ∙ ap name (sym e)) (λ _ l. found-named name n rs o l) h
-
--- what holds of each order, and of the unknown, holds of a name that is no set and no get
-order-kind : (P : Kind → Type 0) (n : ℕ) → ((o : Order) → P (Gives o)) → P Unknown → P (orderKind n)
-unfolding orderKind
-order-kind P n g u =
-    either P (eqb n (named "stop")) (Gives Stop) _ (g Stop)
-    (either P (eqb n (named "sstp")) (Gives Sstp) _ (g Sstp)
-    (either P (eqb n (named "pwof")) (Gives Pwof) _ (g Pwof)
-    (either P (eqb n (named "left")) (Gives Left) _ (g Left)
-    (either P (eqb n (named "rigt")) (Gives Rigt) _ (g Rigt)
-    (either P (eqb n (named "home")) (Gives Home) _ (g Home)
-    (either P (eqb n (named "loft")) (Gives Loft) _ (g Loft)
-    u))))))
-
--- what a kind says of its name
-abbrev Says : ℕ → Kind → Type 0
-Says n (Set k) = n ≡ rowAt k .setName
-Says n (Get k) = n ≡ rowAt k .getName
-Says n (Gives o) = Unit
-Says n Unknown = Unit
-
-kind-says : (n : ℕ) → Says n (kindOf n)
-unfolding kindOf setBlock getBlock
-kind-says n =
-    eitherBy (Says n) (ltb 0 (setBlock n)) (Set (setBlock n)) _
-    (λ p. found-named (λ r. r .setName) n sheet sheet-own (ltb-true 0 (setBlock n) p))
-    (λ _. eitherBy (Says n) (ltb 0 (getBlock n)) (Get (getBlock n)) _
-    (λ p. found-named (λ r. r .getName) n sheet sheet-own (ltb-true 0 (getBlock n) p))
-    (λ _. order-kind (Says n) n (λ o. tt) tt))
-
--- the name of a set of block k is its set name, and of a get its get name
-pub set-named : (n k : ℕ) → kindOf n ≡ Set k → n ≡ rowAt k .setName
-set-named n k e = rw e at (kind-says n)
-
-pub get-named : (n k : ℕ) → kindOf n ≡ Get k → n ≡ rowAt k .getName
-get-named n k e = rw e at (kind-says n)
-
--- ---- a unit, by its first byte and its name
-
-pub act-zero : (m : Memory) (u : List ℕ) → getD u 0 0 ≡ 0 → act m (whole u) ≡ zeroed m
-unfolding act
-act-zero m u z = rw (eq-eqb (getD u 0 0) 0 z)
-
+-- a unit with a name of that kind
 pub act-kind : (m : Memory) (u : List ℕ) (κ : Kind) → (getD u 0 0 ≡ 0 → ⊥) → kindOf (nameOf u) ≡ κ → act m (whole u) ≡ does m u κ
-unfolding act
-act-kind m u κ s e = rw (ne-eqb (getD u 0 0) 0 s, e)
+act-kind m u κ s e = act-named m u s ∙ ap (does m u) e
 
 -- ---- accepted sets
 
@@ -203,79 +136,3 @@ pub kept : (k : ℕ) (ks : List (Token Event)) (m : Memory) → Without k m ks �
 unfolding deal
 kept k [] m w = refl
 kept k (x ∷ ks) m w = kept k ks (act m x .next) (w .1) ∙ kept-one m x k (w .0)
-
--- ---- gets
-
--- "Get: reply the get name, data, CRC."
-abbrev pub getReply : ℕ → List ℕ → List ℕ
-getReply k d = leBytes 4 (rowAt k .getName) ++ (d ++ leBytes 2 (crcOf d))
-
--- a get of block k sends what the block holds, and alters nothing
-pub got : (m : Memory) (g : List ℕ) (k : ℕ) → (getD g 0 0 ≡ 0 → ⊥) → kindOf (nameOf g) ≡ Get k
-    → act m (whole g) ≡ record { reply = getReply k (dataAt (m .settings) k); orders = []; next = m }
-unfolding does gets
-got m g k s e = act-kind m g (Get k) s e ∙ ap (λ (n : ℕ). gets m n k) (get-named (nameOf g) k e)
-
--- a part of bytes is of bytes
-part-bytes : (u : List ℕ) (n j : ℕ) → ((i : ℕ) → getD u i 0 < 256) → (i : ℕ) → getD (take n (drop j u)) i 0 < 256
-part-bytes u n j b i = by (ltb i n) refl
-  where
-    by : (c : Bool) → ltb i n ≡ c → getD (take n (drop j u)) i 0 < 256
-    by true p = let h = ltb-true i n p in rw (getD-take n (drop j u) i 0 h, getD-drop j u i 0) (b (j + i))
-    by false p =
-        let h = ltb-false i n p in
-        let l : length (take n (drop j u)) ≤ i = simp length-take (omega arith) in
-        rw (List·getD-eq-default (take n (drop j u)) 0 l) (omega arith)
-
--- ---- DEMAND 2: "After an accepted set, the get of that block returns the same fields, reserved bytes zero, until the next accepted set of that block"
-
--- what an accepted set leaves in its block, and what is there until the next one
-pub set-leaves : (m : Memory) (u : List ℕ) (k : ℕ) → ((i : ℕ) → getD u i 0 < 256) → length u ≡ total (rowAt k) → Accepts m u k
-    → dataAt (act m (whole u) .next .settings) k ≡ canonical (rowAt k) (dataIn u)
-set-leaves m u k b l a =
-    let bytes = part-bytes u (length u - 6) 4 b in
-    let long : sum (widths (rowAt k)) ≤ length (dataIn u) = simp (length-take, length-drop) (omega arith) in
-    ap (λ (x : Said Order Memory). dataAt (x .next .settings) k) (accepted m u k a)
-    ∙ get-same (m .settings) k (dataIn u) bytes long (sym (bad-put (m .settings) k (dataIn u) bytes) ∙ a .good)
-
-pub held-after-set : (m : Memory) (u : List ℕ) (k : ℕ) (ks : List (Token Event)) → ((i : ℕ) → getD u i 0 < 256) → length u ≡ total (rowAt k)
-    → Accepts m u k → Without k (act m (whole u) .next) ks
-    → dataAt (deal protocol (act m (whole u) .next) ks .next .settings) k ≡ canonical (rowAt k) (dataIn u)
-held-after-set m u k ks b l a w = kept k ks (act m (whole u) .next) w ∙ set-leaves m u k b l a
-
-pub get-after-set : (m : Memory) (u : List ℕ) (k : ℕ) (ks : List (Token Event)) (g : List ℕ) → ((i : ℕ) → getD u i 0 < 256) → length u ≡ total (rowAt k)
-    → Accepts m u k → Without k (act m (whole u) .next) ks → (getD g 0 0 ≡ 0 → ⊥) → kindOf (nameOf g) ≡ Get k
-    → act (deal protocol (act m (whole u) .next) ks .next) (whole g) .reply ≡ getReply k (canonical (rowAt k) (dataIn u))
-get-after-set m u k ks g b l a w s e =
-    ap (λ (x : Said Order Memory). x .reply) (got (deal protocol (act m (whole u) .next) ks .next) g k s e)
-    ∙ ap (getReply k) (held-after-set m u k ks b l a w)
-
--- ---- the same over a whole run
-
--- a get in a run: behind what is said before it stands its reply, and behind that what is said after it, from the same memory
-pub run-got : (m₀ : Memory) (t : ℕ) (r : List (Item Event)) (before after : List (Token Event)) (g : List ℕ) (k : ℕ)
-    → unitsOf (protocol .cuts) (protocol .need) r .tokens ≡ before ++ (whole g ∷ after) → (getD g 0 0 ≡ 0 → ⊥) → kindOf (nameOf g) ≡ Get k
-    → let x = deal protocol m₀ before in
-    wholeRun protocol m₀ t r .reply ≡ x .reply ++ (getReply k (dataAt (x .next .settings) k) ++ deal protocol (x .next) after .reply)
-unfolding wholeRun deal
-run-got m₀ t r before after g k cut s e =
-    let x = deal protocol m₀ before in
-    ap (λ (ks : List (Token Event)). deal protocol m₀ ks .reply) cut
-    ∙ ap (λ (y : Said Order Memory). y .reply) (deal-append protocol before (whole g ∷ after) m₀)
-    ∙ ap (λ (y : Said Order Memory). x .reply ++ (y .reply ++ deal protocol (y .next) after .reply)) (got (x .next) g k s e)
-
--- the set u, then the get g of its block with no accepted set of the block between them
-pub run-get-after-set : (m₀ : Memory) (t : ℕ) (r : List (Item Event)) (before between after : List (Token Event)) (u g : List ℕ) (k : ℕ)
-    → unitsOf (protocol .cuts) (protocol .need) r .tokens ≡ before ++ (whole u ∷ between ++ (whole g ∷ after))
-    → ((i : ℕ) → getD u i 0 < 256) → length u ≡ total (rowAt k)
-    → let m = deal protocol m₀ before .next in Accepts m u k → Without k (act m (whole u) .next) between
-    → (getD g 0 0 ≡ 0 → ⊥) → kindOf (nameOf g) ≡ Get k
-    → let x = deal protocol m₀ (before ++ (whole u ∷ between)) in
-    wholeRun protocol m₀ t r .reply ≡ x .reply ++ (getReply k (canonical (rowAt k) (dataIn u)) ++ deal protocol (x .next) after .reply)
-unfolding deal
-run-get-after-set m₀ t r before between after u g k cut b l a w s e =
-    let x = deal protocol m₀ (before ++ (whole u ∷ between)) in
-    let reached = ap (λ (y : Said Order Memory). dataAt (y .next .settings) k) (deal-append protocol before (whole u ∷ between) m₀) in
-    let held = held-after-set (deal protocol m₀ before .next) u k between b l a w in
-    run-got m₀ t r (before ++ (whole u ∷ between)) after g k (cut ∙ sym (append-assoc before (whole u ∷ between) (whole g ∷ after))) s e
-    ∙ ap (λ (d : List ℕ). x .reply ++ (getReply k d ++ deal protocol (x .next) after .reply)) (reached ∙ held)

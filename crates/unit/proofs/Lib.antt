@@ -5,6 +5,8 @@ pub mod Need
 pub mod Replies
 pub mod Due
 pub mod Sound
+pub mod Named
 pub mod Kept
+pub mod Runs
 pub mod Cases
 pub mod One

@@ -1,5 +1,5 @@
 -- Each public function's promise leaves one answer. Assumes nothing.
-use mathlib.Core.Path.{_≡_, sym, _∙_}
+use mathlib.Core.Path.{sym, _∙_}
 use Rattle.promise.specs.Promise.{Leaves}
 use Rattle.unit.proofs.names.kind_of.Reads as kind-of
 use Rattle.unit.proofs.names.total_of.Reads as total-of

@@ -1,5 +1,5 @@
 -- This protocol, as the rule and a call take it. In quotation marks: sheet 01, "One call".
-use mathlib.Core.Bool.{Bool, true, false, cond}
+use mathlib.Core.Bool.{Bool, false, cond}
 use mathlib.Core.List.{List, []}
 use Prim.Native.Nat.{ℕ}
 use lib.Dec.{leb, ltb}

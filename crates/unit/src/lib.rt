@@ -5,7 +5,6 @@ use names::Kind;
 use names::Order;
 use settings::Settings;
 ghost use mathlib.Core.Path.{_≡_};
-ghost use lib.Seq.{sets};
 ghost use Rattle.unit.specs.declared.names.Order.the-variants.{Nothing};
 ghost use Rattle.unit.specs.Unit.{memory, flag, intact, puts, gets, answered, Judges};
 

@@ -1,5 +1,5 @@
 -- Each public function's promise leaves one answer. Assumes nothing.
-use mathlib.Core.Path.{_≡_, sym, _∙_}
+use mathlib.Core.Path.{sym, _∙_}
 use Rattle.promise.specs.Promise.{Leaves}
 use Rattle.wire.proofs.u8_at.Reads as u8-at
 use Rattle.wire.proofs.u16_at.Reads as u16-at

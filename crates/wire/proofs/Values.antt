@@ -1,19 +1,19 @@
 -- Signed numbers by their bits, over the width, and floats by their patterns. Assumes nothing.
 use mathlib.Core.Path.{_≡_, refl, sym, ap, _∙_, subst}
 use mathlib.Core.Bool.{Bool, true, false, not, _&&_, _||_, cond}
-use Prim.Native.Nat.{ℕ, zero, suc, _+_, _-_, _*_, _/_, _%_, _^_, _≤_, _<_}
+use Prim.Native.Nat.{ℕ, zero, suc, _+_, _-_, _/_, _%_, _^_, _≤_, _<_}
 use native.Mathlib.Nat.{lt-irrefl, lt-of-le-of-lt}
 use native.Mathlib.Omega.{arith}
-use lib.Dec.{T, ltb, leb, eqb, not-T, leb·zero, lit<}
+use lib.Dec.{T, ltb, leb, eqb, leb·zero, lit<}
 use lib.IntN.{ℤ, pos, negsuc, natAbs}
 use lib.Signed.{leZ, nonNeg, mag}
-use lib.Ieee.{Float, nan, inf, fin, binary32, isNan, nanBits, ofBits, toBits, ofFields, odd, div, ne, lt, neg}
+use lib.Ieee.{Float, nan, inf, fin, binary32, isNan, nanBits, ofBits, toBits, ofFields, odd, div, ne}
 use lib.Ieee.Bits.{nanBits-is, nanBits-above, toBits-ofBits}
 use lib.Ieee.Compare.{differs-from-itself}
-use borrow.Author.Tests.{le-leb, lt-leb, leb-true, leb-false, lt-ltb, le-ltb, ltb-true, ltb-false}
+use borrow.Author.Tests.{lt-leb, leb-true, leb-false, lt-ltb, le-ltb, ltb-true, ltb-false}
 use lib.Pow.{pow-pos}
 use mir.Syntax.{Width, w16}
-use mir.Val.{Fits, SFits, toZ, ofZ, sel, bits, hbits}
+use mir.Val.{Fits, toZ, ofZ, sel, bits, hbits}
 use mir.ValLaws.{toZ-pos, toZ-ofZ, half-full, pow-bits}
 use Rattle.wire.specs.Tests.{signedWithin, finite}
 use Rattle.wire.proofs.Tests.{or-no}

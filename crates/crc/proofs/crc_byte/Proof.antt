@@ -5,7 +5,7 @@ use native.Mathlib.Numerals.{add-one}
 use native.Mathlib.Omega.{arith}
 use borrow.Author.Needs.{needs}
 use lib.Bits.{bitXor}
-use Rattle.crc.specs.Crc.{crcBit, crcBits, crcByte}
+use Rattle.crc.specs.Crc.{crcBits, crcByte}
 use Rattle.crc.proofs.crc_byte.Statement.{statement}
 use Rattle.crc.proofs.crc_byte.Tie as tie
 

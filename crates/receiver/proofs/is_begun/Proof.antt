@@ -1,6 +1,5 @@
 -- `receiver::is_begun` meets its contract. Assumes nothing.
 use mathlib.Core.Path.{sym}
-use native.Mathlib.Omega.{arith}
 use borrow.Author.Needs.{needs}
 use Rattle.receiver.proofs.Held.{begun-none, begun-past, begun-due}
 use Rattle.receiver.proofs.is_begun.Statement.{statement}

@@ -1,5 +1,5 @@
 -- `receiver::is_sound` meets its contract: 01's list, test by test. Assumes nothing.
-use mathlib.Core.Path.{_≡_, sym, _∙_}
+use mathlib.Core.Path.{sym, _∙_}
 use borrow.Author.Needs.{needs}
 use borrow.Author.Tests.{le-leb, lt-leb}
 use Rattle.unit.specs.Protocol.{soundState, soundMemory}

@@ -1,8 +1,8 @@
 -- `receiver::run` meets its contract: each turn of the loop is a law of Turns. Assumes nothing.
-use mathlib.Core.Path.{_≡_, refl, sym, ap, _∙_}
+use mathlib.Core.Path.{sym, _∙_}
 use Prim.Native.Nat.{_+_, _-_, _≤_, _<_}
 use native.Mathlib.Omega.{arith}
-use lib.ListN.{length, getD, take, length-take, length-drop}
+use lib.ListN.{length, length-take, length-drop}
 use borrow.Author.Needs.{needs}
 use Rattle.rule.specs.Calls.{accept}
 use Rattle.unit.specs.Protocol.{protocol}

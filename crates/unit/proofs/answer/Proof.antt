@@ -6,7 +6,7 @@ use lib.Seq.{sets}
 use borrow.Author.Needs.{needs}
 use Rattle.wire.specs.Numbers.{leBytes}
 use Rattle.unit.specs.Names.{kindOf, nameOf}
-use Rattle.unit.specs.Unit.{Memory, memory, does, answered, flag, gets, unknown, Judges}
+use Rattle.unit.specs.Unit.{Memory, memory, does, answered, gets, Judges}
 use Rattle.unit.specs.declared.Notes.{Notes}
 use Rattle.unit.specs.declared.Judged.{Judged}
 use Rattle.unit.specs.declared.names.Order.the-variants.{Nothing}

@@ -1,5 +1,5 @@
 -- `unit::answer_get` meets its contract. Assumes nothing.
-use mathlib.Core.Path.{_≡_, refl, sym, _∙_}
+use mathlib.Core.Path.{refl, sym, _∙_}
 use lib.Seq.{length-take-le}
 use borrow.Author.Needs.{needs}
 use Rattle.unit.specs.Unit.{memory}

@@ -1,6 +1,6 @@
 -- `wire::copy` meets its contract: the bytes from k on, stored at p, make what all of them make at `at`. Assumes nothing.
 use mathlib.Core.Path.{_≡_, refl, _∙_, sym}
-use Prim.Native.Nat.{_+_, _-_}
+use Prim.Native.Nat.{_-_}
 use native.Mathlib.Omega.{arith}
 use lib.ListN.{length, drop, length-set}
 use lib.Seq.{sets}

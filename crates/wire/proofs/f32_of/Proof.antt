@@ -1,6 +1,6 @@
 -- `wire::f32_of` meets its contract. Assumes nothing.
 use Rattle.wire.proofs.Values.{pattern-no-nan, pattern-nan, zero-by-zero}
-use mathlib.Core.Path.{sym, ap, _∙_}
+use mathlib.Core.Path.{sym, _∙_}
 use borrow.Author.Needs.{needs}
 use Rattle.wire.proofs.f32_of.Statement.{statement}
 use Rattle.wire.proofs.f32_of.Tie as tie

@@ -2,7 +2,6 @@
 use Rattle.wire.specs.Tests.{within}
 use Rattle.wire.proofs.Tests.{and-yes, and-no}
 use borrow.Author.Tests.{le-leb, lt-leb}
-use borrow.Author.Needs.{needs}
 use Rattle.wire.proofs.is_within.Statement.{statement}
 use Rattle.wire.proofs.is_within.Tie as tie
 

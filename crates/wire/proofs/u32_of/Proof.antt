@@ -4,9 +4,8 @@ use Rattle.wire.proofs.Values.{turned}
 use mir.ValLaws.{ofZ-fits}
 use mir.Val.{ofZ}
 use mir.Syntax.{w32}
-use Rattle.wire.proofs.Values.{low-of, high-of, cast-low, abs-low}
+use Rattle.wire.proofs.Values.{low-of, cast-low, abs-low}
 use native.Mathlib.Omega.{arith}
-use borrow.Author.Needs.{needs}
 use Rattle.wire.proofs.u32_of.Statement.{statement}
 use Rattle.wire.proofs.u32_of.Tie as tie
 
