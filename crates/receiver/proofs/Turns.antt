@@ -1,12 +1,10 @@
 -- The turns of the receive loop, each a law over plain variables. Assumes nothing.
-use mathlib.Core.Path.{_≡_, refl, ap, sym, _∙_, subst}
-use mathlib.Core.Bool.{true, false}
+use mathlib.Core.Path.{_≡_, refl, ap, sym, _∙_}
 use mathlib.Core.List.{List, [], _∷_, _++_, append-assoc}
 use Prim.Native.Nat.{ℕ, suc, _+_, _-_, _≤_, _<_, min}
 use native.Mathlib.Nat.{sub-zero}
 use native.Mathlib.Numerals.{add-one}
 use native.Mathlib.Omega.{arith}
-use lib.Dec.{T}
 use lib.ListN.{length, getD, set, take, drop, length-append, length-take, length-drop, length-set, take-append-drop, drop-of-length-le}
 use lib.Seq.{sets, drop-cons, length-take-le, drop-drop}
 use borrow.Rule.Slice.PartMut.{midOf, putMid}
@@ -17,7 +15,7 @@ use Rattle.rule.specs.Step.{step}
 use Rattle.rule.specs.Calls.{Called, accept}
 use Rattle.rule.specs.Loop.{later, over}
 use Rattle.rule.proofs.Loop.{step-ends, later-start, later-end, later-full, later-turn, later-stop, later-joins}
-use Rattle.unit.specs.Names.{need, due, isGiven}
+use Rattle.unit.specs.Names.{need, due, orderNumber}
 use Rattle.unit.specs.Unit.{Memory, act, answered, zeroed, orderOf, Judges}
 use Rattle.unit.specs.Protocol.{protocol}
 use Rattle.unit.proofs.Need.{need-some, need-most}
@@ -36,18 +34,18 @@ abbrev pub stateAt : Memory → List ℕ → ℕ → State Memory
 stateAt m u t = record { memory = m; line = record { unfinished = u; last = t } }
 
 -- an order that is none, and one that is
-none-given : (o : Order) → isGiven o ≡ false → given o ≡ []
+none-given : (o : Order) → orderNumber o ≡ 0 → given o ≡ []
 none-given Nothing h = refl
-none-given Stop h = absurd (subst T h tt)
-none-given Sstp h = absurd (subst T h tt)
-none-given Pwof h = absurd (subst T h tt)
-none-given Left h = absurd (subst T h tt)
-none-given Rigt h = absurd (subst T h tt)
-none-given Home h = absurd (subst T h tt)
-none-given Loft h = absurd (subst T h tt)
+none-given Stop h = absurd (omega arith)
+none-given Sstp h = absurd (omega arith)
+none-given Pwof h = absurd (omega arith)
+none-given Left h = absurd (omega arith)
+none-given Rigt h = absurd (omega arith)
+none-given Home h = absurd (omega arith)
+none-given Loft h = absurd (omega arith)
 
-one-given : (o : Order) → isGiven o ≡ true → given o ≡ o ∷ []
-one-given Nothing h = absurd (subst T (sym h) tt)
+one-given : (o : Order) → (orderNumber o ≡ 0 → ⊥) → given o ≡ o ∷ []
+one-given Nothing h = absurd (h refl)
 one-given Stop h = refl
 one-given Sstp h = refl
 one-given Pwof h = refl
@@ -327,9 +325,9 @@ module _ (c : Called Order Memory) (t : ℕ) (piece reply₀ reply : List ℕ) (
         pub back-long : length (putMid w (length reply - w) reply ys) ≡ length reply₀
         back-long = rw back-is (wrote fits done ended b emptied-is .long ∙ inv .long)
 
-        pub goes : isGiven (d .order) ≡ false → Inv c t piece reply₀ (putMid w (length reply - w) reply ys) b (i + 1) (w + n)
+        pub goes : orderNumber (d .order) ≡ 0 → Inv c t piece reply₀ (putMid w (length reply - w) reply ys) b (i + 1) (w + n)
         goes h = rw back-is (turned fits done ended b emptied-is (orders-are ∙ none-given (d .order) h))
 
-        pub gives : isGiven (d .order) ≡ true → (r : Call) → r ≡ record { number = 0; taken = i + 1; written = w + n; order = d .order; board = b }
+        pub gives : (orderNumber (d .order) ≡ 0 → ⊥) → (r : Call) → r ≡ record { number = 0; taken = i + 1; written = w + n; order = d .order; board = b }
             → Ran c reply₀ r (putMid w (length reply - w) reply ys)
         gives h r f = rw back-is (stopped fits done ended b emptied-is (d .order) r (orders-are ∙ one-given (d .order) h) f)

@@ -188,7 +188,7 @@ fn run(board: Board, piece: &[u8], reply: &mut [u8]) -> Call
                 w += n;
                 cur = emptied(said, cur.stamp);
                 let order = said.order;
-                if unit::names::is_given(order) {
+                if unit::names::order_number(order) != 0 {
                     return over(i, w, order, cur);
                 }
             }

@@ -5,7 +5,7 @@ use Rattle.unit.proofs.names.kind_of.Reads as kind-of
 use Rattle.unit.proofs.names.total_of.Reads as total-of
 use Rattle.unit.proofs.names.span_of.Reads as span-of
 use Rattle.unit.proofs.names.replied_of.Reads as replied-of
-use Rattle.unit.proofs.names.is_given.Reads as is-given
+use Rattle.unit.proofs.names.order_number.Reads as order-number
 use Rattle.unit.proofs.answer.Reads as answer
 
 pub kind-of-one : Leaves kind-of.Post (λ κs r s. r)
@@ -20,8 +20,8 @@ span-of-one κs a r r' s s' p q = p ∙ sym q
 pub replied-of-one : Leaves replied-of.Post (λ κs r s. r)
 replied-of-one κs a r r' s s' p q = p ∙ sym q
 
-pub is-given-one : Leaves is-given.Post (λ κs r s. r)
-is-given-one κs a r r' s s' p q = p ∙ sym q
+pub order-number-one : Leaves order-number.Post (λ κs r s. r)
+order-number-one κs a r r' s s' p q = p ∙ sym q
 
 -- the answer, and every byte of the lent buffer
 pub answer-one : Leaves answer.Post (λ κs r s. r)

@@ -24,9 +24,6 @@ orderNumber Rigt = 5
 orderNumber Home = 6
 orderNumber Loft = 7
 
-abbrev pub isGiven : Order → Bool
-isGiven o = ltb 0 (orderNumber o)
-
 -- the block that has this set name, or 0
 abbrev setIn : List Row → ℕ → ℕ
 setIn [] n = 0

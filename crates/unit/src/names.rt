@@ -8,7 +8,7 @@ use pid::Pid;
 use pwr::Pwr;
 ghost use mathlib.Core.Path.{_≡_};
 ghost use Rattle.sheet.specs.Rows.{rowAt, total};
-ghost use Rattle.unit.specs.Names.{setBlock, getBlock, orderKind, kindOf, span, replied, isGiven};
+ghost use Rattle.unit.specs.Names.{setBlock, getBlock, orderKind, kindOf, span, replied, orderNumber};
 
 pub enum Order {
     Nothing,
@@ -208,34 +208,34 @@ pub fn replied_of(name: u32) -> usize
     }
 }
 
-// Whether there is an order.
-pub fn is_given(order: Order) -> bool
-    ensures { λ r. ⌜ r ≡ isGiven order ⌝ }
+// 01's number of an order, 0 for none.
+pub fn order_number(order: Order) -> u8
+    ensures { λ r. ⌜ r ≡ orderNumber order ⌝ }
 {
     match order {
         Order::Nothing => {
-            return false;
+            return 0;
         }
         Order::Stop => {
-            return true;
+            return 1;
         }
         Order::Sstp => {
-            return true;
+            return 2;
         }
         Order::Pwof => {
-            return true;
+            return 3;
         }
         Order::Left => {
-            return true;
+            return 4;
         }
         Order::Rigt => {
-            return true;
+            return 5;
         }
         Order::Home => {
-            return true;
+            return 6;
         }
         Order::Loft => {
-            return true;
+            return 7;
         }
     }
 }

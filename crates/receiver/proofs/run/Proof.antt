@@ -99,7 +99,7 @@ returns-2 c =
     let three = c .before .before .before .before .before .before .before .before .before .before .before .before in
     let d = three .before .before .before in
     turns.gives _ _ _ _ _ _ _ _ (d .before .before .before .before .before .loop .inv) (d .before .before .before .before .loop-test .taken) _ (d .due-for .ensures) (three .before .before .if1 .left) (three .if3 .left) (three .before .if2 .left) _ _
-    (c .before .before .before .before .before .before .answer .ensures) _ (c .before .before .before .emptied .ensures) (sym (c .before .before .is-given .ensures) ∙ c .before .if4 .taken) (c .over2 .result) (c .over2 .ensures)
+    (c .before .before .before .before .before .before .answer .ensures) _ (c .before .before .before .emptied .ensures) (λ e. c .before .if4 .taken (c .before .before .order-number .ensures ∙ e)) (c .over2 .result) (c .over2 .ensures)
 
 loop-less-3 : tie.Need-loop-less-3 Inv-loop μ-loop
 loop-less-3 c = omega (arith, c .before .before .before .before .before .before .before .before .before .before .before .before .before .before .before .before .before .before .loop-test .taken)
@@ -109,7 +109,7 @@ loop-again-3 c =
     let three = c .before .before .before .before .before .before .before .before .before .before .before in
     let d = three .before .before .before in
     turns.goes _ _ _ _ _ _ _ _ (d .before .before .before .before .before .loop .inv) (d .before .before .before .before .loop-test .taken) _ (d .due-for .ensures) (three .before .before .if1 .left) (three .if3 .left) (three .before .if2 .left) _ _
-    (c .before .before .before .before .before .answer .ensures) _ (c .before .before .emptied .ensures) (sym (c .before .is-given .ensures) ∙ c .if4 .left)
+    (c .before .before .before .before .before .answer .ensures) _ (c .before .before .emptied .ensures) (sym (c .before .order-number .ensures) ∙ c .if4 .left)
 
 pub run-spec : {M : Type 1} → statement M
 run-spec =

@@ -1,0 +1,15 @@
+-- Each public function's promise leaves one answer. Assumes nothing.
+use mathlib.Core.Path.{sym, _∙_}
+use Rattle.promise.specs.Promise.{Leaves}
+use Rattle.board.proofs.rivertosku_fresh.Reads as rivertosku-fresh
+use Rattle.board.proofs.rivertosku_receive.Reads as rivertosku-receive
+
+pub rivertosku-fresh-one : Leaves rivertosku-fresh.Post (λ κs r s. r)
+rivertosku-fresh-one κs a r r' s s' p q = p ∙ sym q
+
+-- the answer, and every byte of the lent buffer
+pub rivertosku-receive-one : Leaves rivertosku-receive.Post (λ κs r s. r)
+rivertosku-receive-one κs a r r' s s' p q = p .result ∙ sym (q .result)
+
+pub rivertosku-receive-bytes-one : Leaves rivertosku-receive.Post (λ κs r s. s .1 .1 .1 .0 .now)
+rivertosku-receive-bytes-one κs a r r' s s' p q = p .reply ∙ sym (q .reply)

@@ -1,0 +1,48 @@
+// The receiver as C and Rust link it: the same two functions under plain names, the order as 01's number.
+use receiver::Board;
+ghost use mathlib.Core.Path.{_≡_};
+ghost use lib.ListN.{length};
+ghost use Rattle.rule.specs.Calls.{call};
+ghost use Rattle.unit.specs.Protocol.{protocol, freshState};
+ghost use Rattle.receiver.specs.State.{stateOf, boardOf};
+ghost use Rattle.board.specs.Answer.{Answered};
+
+// What a call answers, flat.
+#[repr(C)]
+pub struct Answer {
+    pub number: u8,
+    pub order: u8,
+    pub taken: usize,
+    pub written: usize,
+    pub board: Board,
+}
+
+// A board that has taken nothing yet.
+#[no_mangle]
+pub extern "C" fn rivertosku_fresh() -> Board
+    ensures { λ r. ⌜ r ≡ boardOf freshState ⌝ }
+{
+    receiver::fresh()
+}
+
+// One call: a piece of bytes that share a stamp, and room for the replies.
+#[no_mangle]
+pub extern "C" fn rivertosku_receive(
+    board: Board,
+    piece: &[u8],
+    stamp: u32,
+    reply: &mut [u8],
+) -> Answer
+    ensures { λ r. ⌜ Answered (call protocol (stateOf board) stamp (length (now (reply .entry))) (now (piece .entry))) board (now (reply .entry)) r (now (reply .exit)) ⌝ }
+{
+    let call = receiver::receive(board, piece, stamp, reply);
+    let order = call.order;
+    let next = call.board;
+    Answer {
+        number: call.number,
+        order: unit::names::order_number(order),
+        taken: call.taken,
+        written: call.written,
+        board: next,
+    }
+}
