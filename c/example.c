@@ -1,0 +1,68 @@
+/* A board's main loop: stamped pieces in, replies out, orders to the drive. */
+#include "rivertosku.h"
+
+#include <stdio.h>
+
+struct arrival {
+    uint32_t stamp;
+    size_t length;
+    uint8_t bytes[32];
+};
+
+/* What the serial port would bring. */
+static const struct arrival line[] = {
+    /* A good set of brk: t1 is 65535. */
+    {1000, 25, {'s', 'b', 'r', 'k', 0xFF, 0xFF}},
+    {1010, 4, {'g', 'b', 'r', 'k'}},
+    /* The same with t1 65534 and its CRC as it was: damaged. */
+    {1020, 25, {'s', 'b', 'r', 'k', 0xFE, 0xFF}},
+    /* An order with zeros behind it. */
+    {1030, 7, {'s', 't', 'o', 'p', 0, 0, 0}},
+    /* Half a command; the rest comes 401 ms later and is read as a new unit. */
+    {2000, 2, {'l', 'e'}},
+    {2401, 2, {'f', 't'}},
+};
+
+static void drive(uint8_t order)
+{
+    printf("drive order %u\n", (unsigned)order);
+}
+
+static void send_reply(const uint8_t *reply, size_t length)
+{
+    if (length == 0) {
+        return;
+    }
+    printf("send ");
+    for (size_t i = 0; i < length; i++) {
+        printf("%02x", (unsigned)reply[i]);
+    }
+    printf("\n");
+}
+
+int main(void)
+{
+    struct rivertosku_board board = rivertosku_fresh();
+    for (size_t i = 0; i < sizeof line / sizeof line[0]; i++) {
+        const uint8_t *piece = line[i].bytes;
+        size_t left = line[i].length;
+        while (left > 0) {
+            uint8_t reply[RIVERTOSKU_ROOM];
+            struct rivertosku_answer answer = rivertosku_receive(board, piece, left, line[i].stamp, reply, sizeof reply);
+            if (answer.number != RIVERTOSKU_ACCEPTED) {
+                printf("refused %u\n", (unsigned)answer.number);
+                return 1;
+            }
+            board = answer.board;
+            send_reply(reply, answer.written);
+            if (answer.order != RIVERTOSKU_NO_ORDER) {
+                drive(answer.order);
+            }
+            piece += answer.taken;
+            left -= answer.taken;
+        }
+    }
+    printf("t1 %u, flags %u, unfinished %zu, stamp %lu\n", (unsigned)board.settings.brk.t1, (unsigned)board.notes.flags, board.count,
+           (unsigned long)board.stamp);
+    return 0;
+}

@@ -1,0 +1,88 @@
+// The bench: runs a trace from standard input through the receiver, and prints a line a call (sheet 01, "The bench program").
+use receiver::Board;
+use receiver::Call;
+use trace::Reading;
+ghost use mathlib.Core.Path.{_≡_};
+ghost use Rattle.rule.specs.Calls.{call as rules};
+ghost use Rattle.unit.specs.Protocol.{protocol};
+ghost use Rattle.receiver.specs.State.{stateOf};
+ghost use Rattle.receiver.specs.Receive.{answer};
+
+fn say(text: &[u8]) {
+    io::write_all(1, text);
+}
+
+fn say_bad(place: usize) {
+    let mut line = [0u8; 64];
+    let n = trace::write_bad(&mut line, place);
+    say(&line[..n]);
+}
+
+// The last line.
+fn say_end(board: Board) {
+    let mut line = [0u8; 64];
+    let n = trace::write_end(&mut line, board.notes.flags, board.count);
+    say(&line[..n]);
+}
+
+// One call, with a reply room of 250, and its line.
+fn call_once(board: Board, stamp: u32, piece: &[u8]) -> Call
+    ensures { λ r. ⌜ r ≡ answer board (rules protocol (stateOf board) stamp 250 (now (piece .entry))) ⌝ }
+{
+    let mut reply = [0u8; 250];
+    let call = receiver::receive(board, piece, stamp, &mut reply);
+    let order = call.order;
+    let number = unit::names::order_number(order);
+    let written = call.written;
+    let mut line = [0u8; 600];
+    let n = trace::write_line(&mut line, stamp, call.taken, number, &reply[..written]);
+    say(&line[..n]);
+    call
+}
+
+// Calls until all of a record's bytes are taken, at least once. An accepted call on some bytes takes one at least, so none that takes 0 is
+// followed by another.
+fn offer(board: Board, stamp: u32, piece: &[u8]) -> Board {
+    let mut cur = board;
+    let mut at = 0;
+    loop {
+        let call = call_once(cur, stamp, &piece[at..]);
+        let taken = call.taken;
+        cur = call.board;
+        at += taken;
+        if taken == 0 {
+            return cur;
+        }
+        if piece.len() <= at {
+            return cur;
+        }
+    }
+}
+
+// Record after record, until the bytes end or one is bad.
+fn run(bytes: &[u8]) {
+    let mut board = receiver::fresh();
+    let mut at = 0;
+    while at < bytes.len() {
+        let reading = trace::read_record(&bytes[at..]);
+        let Reading::Record(head) = reading else {
+            say_bad(at);
+            break;
+        };
+        let from = at + 7;
+        let to = from + head.count;
+        board = offer(board, head.stamp, &bytes[from..to]);
+        at = to;
+    }
+    say_end(board);
+}
+
+fn main() {
+    let mut input = [0u8; 60001];
+    let n = io::read_full(0, &mut input);
+    if 60000 < n {
+        say(b"too long\n");
+        return;
+    }
+    run(&input[..n]);
+}

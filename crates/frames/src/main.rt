@@ -1,0 +1,268 @@
+// Runs frames on the library and prints of each call: number, taken, written, order, reply. The cases of 01, "Frames on the bench", that are
+// not starred; a board that breaks each rule of soundness; and for every block a good set with its get, a wrong CRC, every range at its edges.
+use brk::Brk;
+use eds::Eds;
+use eng::Eng;
+use hom::Hom;
+use mov::Mov;
+use pid::Pid;
+use pwr::Pwr;
+use receiver::Board;
+use settings::Settings;
+use unit::Notes;
+ghost use Prim.Native.Nat.{_≤_};
+
+fn say(text: &[u8]) {
+    io::write_all(1, text);
+}
+
+fn decimal(n: u64) {
+    say(b" ");
+    io::print_decimal(1, n);
+}
+
+// The first n bytes of a part, or `-`.
+fn hexadecimal(part: &[u8], n: usize) {
+    say(b" ");
+    if n == 0 {
+        say(b"-");
+    }
+    let end = least(n, part.len());
+    let mut k = 0;
+    while k < end {
+        io::print_hex(1, part[k] as u64, 2);
+        k += 1;
+    }
+}
+
+fn least(a: usize, b: usize) -> usize
+    ensures { λ r. ⌜ (r ≤ a) × (r ≤ b) ⌝ }
+{
+    if a < b { a } else { b }
+}
+
+// One call, printed behind what it is about: number, taken, written, order, reply; flags, last refused block and field. The next board.
+fn show_in(about: &[u8], board: Board, piece: &[u8], reply: &mut [u8]) -> Board {
+    let call = receiver::receive(board, piece, 7, reply);
+    let order = call.order;
+    let next = call.board;
+    say(about);
+    decimal(call.number as u64);
+    decimal(call.taken as u64);
+    decimal(call.written as u64);
+    decimal(unit::names::order_number(order) as u64);
+    hexadecimal(reply, call.written);
+    decimal(next.notes.flags as u64);
+    decimal(next.notes.block as u64);
+    decimal(next.notes.field as u64);
+    say(b"\n");
+    next
+}
+
+// The same with the bench's room.
+fn show(about: &[u8], board: Board, piece: &[u8]) -> Board {
+    let mut reply = [0u8; 250];
+    show_in(about, board, piece, &mut reply)
+}
+
+// A set's frame: the block's fresh values with one number at a place, and the CRC with something added.
+fn framed(name: u32, block: usize, place: usize, width: usize, n: u64, off: u8) -> [u8; 48] {
+    let mut section = [0u8; 48];
+    let fresh = Settings::fresh();
+    fresh.get(block, &mut section);
+    wire::put(&mut section, place, width, n);
+    let size = least(unit::names::total_of(block) - 6, 42);
+    let sum = crc::crc(&section[..size]) as u64 + off as u64;
+    let mut frame = [0u8; 48];
+    wire::put(&mut frame, 0, 4, name as u64);
+    wire::copy(&mut frame, 4, &section[..size]);
+    wire::put(&mut frame, 4 + size, 2, sum);
+    frame
+}
+
+// That frame, offered to a fresh board.
+fn show_set(
+    about: &[u8],
+    name: u32,
+    block: usize,
+    place: usize,
+    width: usize,
+    n: u64,
+    off: u8,
+) -> Board {
+    let frame = framed(name, block, place, width, n, off);
+    let size = least(unit::names::total_of(block), 48);
+    show(about, receiver::fresh(), &frame[..size])
+}
+
+// A good set and its get, and the set with a wrong CRC.
+fn show_block(about: &[u8], set: u32, get: u32, block: usize) {
+    let board = show_set(about, set, block, 0, 0, 0, 0);
+    let mut name = [0u8; 4];
+    wire::put(&mut name, 0, 4, get as u64);
+    show(about, board, &name);
+    show_set(about, set, block, 0, 0, 0, 1);
+}
+
+// A field at the edges of its range and past them, each on a fresh board.
+fn show_edges(about: &[u8], set: u32, block: usize, place: usize, width: usize, ns: &[u64]) {
+    let mut k = 0;
+    while k < ns.len() {
+        show_set(about, set, block, place, width, ns[k], 0);
+        k += 1;
+    }
+}
+
+// The cases of 01 that are not starred.
+fn show_sheet() {
+    let long = [120u8; 251];
+    let mut narrow = [0u8; 47];
+    let mut least_room = [0u8; 48];
+    show(
+        b"spwr",
+        receiver::fresh(),
+        b"spwr\xff\xff\0\0\0\0\0\0\0\0\0\0\0\0\0\0",
+    );
+    show_in(b"room 47", receiver::fresh(), b"stop", &mut narrow);
+    show(b"piece of 251", receiver::fresh(), &long);
+    show_in(b"both", receiver::fresh(), &long, &mut narrow);
+    let mut zero = receiver::fresh();
+    zero.count = 1;
+    show(b"unfinished 00", zero, b"stop");
+    show_in(b"unfinished 00, room 47", zero, b"stop", &mut narrow);
+    show_in(b"gpidgpid", receiver::fresh(), b"gpidgpid", &mut least_room);
+}
+
+// A board that breaks one rule of soundness.
+fn show_unsound() {
+    let mut unknown = receiver::fresh();
+    unknown.held[0] = 120;
+    unknown.count = 4;
+    show(b"unknown name", unknown, b"stop");
+    let mut past = receiver::fresh();
+    let frame = framed(Brk::SET, 6, 0, 0, 0, 0);
+    past.held = frame;
+    past.count = 25;
+    show(b"whole set", past, b"stop");
+    let mut beyond = receiver::fresh();
+    beyond.held[0] = 120;
+    beyond.count = 49;
+    show(b"49 bytes", beyond, b"stop");
+    let mut range = receiver::fresh();
+    let fresh = Settings::fresh();
+    let slow = fresh.put(1, &[0u8; 24]);
+    range.settings = slow;
+    show(b"Accel 0", range, b"stop");
+    let mut section = [0u8; 42];
+    wire::put(&mut section, 6, 4, 0x7f800000);
+    let mut float = receiver::fresh();
+    let endless = fresh.put(7, &section);
+    float.settings = endless;
+    show(b"Kpf infinite", float, b"stop");
+    let mut flags = receiver::fresh();
+    let notes = Notes {
+        flags: 8,
+        block: 0,
+        field: 0,
+    };
+    flags.notes = notes;
+    show(b"flags 8", flags, b"stop");
+}
+
+fn show_blocks() {
+    show_block(b"mov", Mov::SET, Mov::GET, 1);
+    show_block(b"eng", Eng::SET, Eng::GET, 2);
+    show_block(b"pwr", Pwr::SET, Pwr::GET, 3);
+    show_block(b"eds", Eds::SET, Eds::GET, 4);
+    show_block(b"hom", Hom::SET, Hom::GET, 5);
+    show_block(b"brk", Brk::SET, Brk::GET, 6);
+    show_block(b"pid", Pid::SET, Pid::GET, 7);
+}
+
+fn show_speeds() {
+    show_edges(b"mov Speed", Mov::SET, 1, 0, 4, &[0, 100000, 100001]);
+    show_edges(b"mov Accel", Mov::SET, 1, 5, 2, &[0, 1, 65535]);
+    show_edges(b"mov Decel", Mov::SET, 1, 7, 2, &[0, 1, 65535]);
+    show_edges(
+        b"mov AntiplaySpeed",
+        Mov::SET,
+        1,
+        9,
+        4,
+        &[0, 100000, 100001],
+    );
+    show_edges(b"hom FastHome", Hom::SET, 5, 0, 4, &[0, 100000, 100001]);
+    show_edges(b"hom SlowHome", Hom::SET, 5, 5, 4, &[0, 100000, 100001]);
+    show_edges(
+        b"hom uHomeDelta",
+        Hom::SET,
+        5,
+        14,
+        2,
+        &[65280, 65281, 255, 256],
+    );
+}
+
+fn show_engine() {
+    show_edges(b"eng NomCurrent", Eng::SET, 2, 2, 2, &[14, 15, 8000, 8001]);
+    show_edges(b"eng NomSpeed", Eng::SET, 2, 4, 4, &[0, 1, 100000, 100001]);
+    show_edges(b"eng MicrostepMode", Eng::SET, 2, 13, 1, &[0, 1, 9, 10]);
+    show_edges(b"eng StepsPerRev", Eng::SET, 2, 14, 2, &[0, 1, 65535]);
+    show_edges(b"pwr HoldCurrent", Pwr::SET, 3, 0, 1, &[0, 100, 101]);
+}
+
+fn show_borders() {
+    show_edges(
+        b"eds uLeftBorder",
+        Eds::SET,
+        4,
+        6,
+        2,
+        &[65280, 65281, 255, 256],
+    );
+    show_edges(
+        b"eds uRightBorder",
+        Eds::SET,
+        4,
+        12,
+        2,
+        &[65280, 65281, 255, 256],
+    );
+}
+
+fn show_gains() {
+    show_edges(
+        b"pid Kpf",
+        Pid::SET,
+        7,
+        6,
+        4,
+        &[0x80000000, 0x7f7fffff, 0x7f800000],
+    );
+    show_edges(
+        b"pid Kif",
+        Pid::SET,
+        7,
+        10,
+        4,
+        &[0x80000000, 0x7f7fffff, 0x7f800000],
+    );
+    show_edges(
+        b"pid Kdf",
+        Pid::SET,
+        7,
+        14,
+        4,
+        &[0x80000000, 0x7f7fffff, 0x7fc00001],
+    );
+}
+
+fn main() {
+    show_sheet();
+    show_unsound();
+    show_blocks();
+    show_speeds();
+    show_engine();
+    show_borders();
+    show_gains();
+}

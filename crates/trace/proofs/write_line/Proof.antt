@@ -1,0 +1,31 @@
+-- `trace::write_line` meets its contract: its parts stand one behind the other. Assumes nothing.
+use borrow.Author.Needs.{needs}
+use Rattle.trace.specs.Lines.{lineOf}
+use Rattle.trace.proofs.Texts.{then}
+use Rattle.trace.proofs.write_line.Statement.{statement}
+use Rattle.trace.proofs.write_line.Tie as tie
+
+returns : tie.Need-returns
+unfolding lineOf
+returns c =
+    let end = c .before .before in
+    let reply = end .before .before .before .before in
+    let order = reply .before .before .before .before in
+    let taken = order .before .before .before .before in
+    let stamp = taken .before .before .before .before in
+    then (stamp .write-number .ensures)
+    (then (taken .write-number2 .ensures)
+    (then (order .write-number3 .ensures)
+    (then (reply .write-reply .ensures) (end .write-byte .ensures))))
+
+pub write-line-spec : {M : Type 1} → statement M
+write-line-spec =
+    tie.close
+    (tie.spec
+    (λ c κs. search needs)
+    (λ c κs. search needs)
+    (λ c κs. search needs)
+    (λ c κs. search needs)
+    (λ c κs. search needs)
+    (λ c. search needs)
+    returns)

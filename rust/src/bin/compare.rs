@@ -1,0 +1,515 @@
+//! The library and the second receiver on the same random runs, compared after each call: number, taken, written, order, every byte of
+//! the buffer, the state.
+//!
+//!     compare [--seed N] [--units N] [--break NAME|all] [--show]
+
+use rivertosku::board::{Board, Number, Parts};
+use rivertosku::frames::{self, Random};
+use rivertosku::same;
+use rivertosku::second::{Fault, Second};
+use std::process::ExitCode;
+
+/// A change of the state by hand before a step. All but `Spare` are taken back behind it.
+#[derive(Clone, Debug)]
+enum Change {
+    Data(usize, Vec<u8>),
+    Flags(u8),
+    Held(Vec<u8>, usize),
+    /// This byte in all places of held behind the unfinished bytes.
+    Spare(u8),
+}
+
+/// A piece, offered until all of it is taken or it is refused.
+#[derive(Clone)]
+struct Step {
+    change: Option<Change>,
+    piece: Vec<u8>,
+    stamp: u32,
+    room: usize,
+}
+
+#[derive(Clone)]
+struct Run {
+    /// A sound state to begin with, else a fresh board.
+    start: Option<Parts>,
+    steps: Vec<Step>,
+}
+
+#[derive(Default)]
+struct Counts {
+    runs: usize,
+    units: usize,
+    /// Units by their answers: zero, errc, get, order, set, errd, errv.
+    kinds: [usize; 7],
+    calls: usize,
+    numbers: [usize; 4],
+    bytes: usize,
+}
+
+struct Miss {
+    step: usize,
+    text: String,
+}
+
+impl Change {
+    fn apply(&self, parts: &mut Parts) {
+        match self {
+            Change::Data(block, data) => same::put_data(&mut parts.settings, *block, data),
+            Change::Flags(flags) => parts.notes.flags = *flags,
+            Change::Held(bytes, count) => {
+                parts.held = [0; 48];
+                parts.held[..bytes.len()].copy_from_slice(bytes);
+                parts.count = *count;
+            }
+            Change::Spare(byte) => {
+                let from = parts.count.min(48);
+                parts.held[from..].fill(*byte);
+            }
+        }
+    }
+}
+
+fn hex(bytes: &[u8]) -> String {
+    match bytes {
+        [] => "-".to_string(),
+        _ => bytes.iter().map(|b| format!("{b:02x}")).collect(),
+    }
+}
+
+/// Counts a call's units by their answers.
+fn count_kinds(mut reply: &[u8], ordered: bool, kinds: &mut [usize; 7]) {
+    while !reply.is_empty() {
+        let (kind, length) = match reply {
+            [0, ..] => (0, 1),
+            [b'e', b'r', b'r', b'c', ..] => (1, 4),
+            [b'e', b'r', b'r', b'd', ..] => (5, 4),
+            [b'e', b'r', b'r', b'v', ..] => (6, 4),
+            [b'g', block @ ..] => (2, frames::total(block)),
+            _ if ordered && reply.len() == 4 => (3, 4),
+            _ => (4, 4),
+        };
+        kinds[kind] += 1;
+        reply = &reply[length..];
+    }
+}
+
+const BUFFER: usize = 320;
+
+/// One call of both; what differs, else how many bytes were taken and whether it was accepted.
+fn call(
+    board: &mut Board,
+    second: &mut Second,
+    fault: Fault,
+    piece: &[u8],
+    stamp: u32,
+    room: usize,
+    counts: &mut Counts,
+) -> Result<(usize, bool), String> {
+    // The buffer goes on behind the room, to see that nothing is written there.
+    let salt = counts.calls as u8;
+    let filled: [u8; BUFFER] = std::array::from_fn(|i| (i as u8).wrapping_mul(31).wrapping_add(salt) | 1);
+    let (mut ours, mut theirs) = (filled, filled);
+    let before = *board.parts();
+
+    let answer = board.receive(piece, stamp, &mut ours[..room]);
+    let number = answer.number;
+    let taken = answer.taken;
+    let a = (number as u8, taken, answer.reply.len(), answer.order.map_or(0, |o| o as u8));
+    let out = match fault {
+        Fault::None => second.call(piece, stamp, &mut theirs[..room]),
+        _ => second.broken_call(fault, piece, stamp, &mut theirs[..room]),
+    };
+    let b = (out.number, out.taken, out.written, out.order);
+
+    counts.calls += 1;
+    counts.units += out.units;
+    counts.numbers[number as usize] += 1;
+    counts.bytes += taken;
+
+    if a != b {
+        return Err(format!("number, taken, written, order: library {a:?}, second {b:?}"));
+    }
+    if ours != theirs {
+        return Err(format!("buffer: library {}, second {}", hex(&ours[..room]), hex(&theirs[..room])));
+    }
+    if let Some(text) = same::difference(board, second) {
+        return Err(text);
+    }
+    count_kinds(&ours[..a.2], a.3 != 0, &mut counts.kinds);
+    // The library's record besides: the very same if nothing is taken, else zeros behind the unfinished bytes.
+    if taken == 0 && *board.parts() != before {
+        return Err(format!("nothing is taken, the record changes: {before:?} to {:?}", board.parts()));
+    }
+    if taken > 0 && board.parts().held[board.parts().count..].iter().any(|&byte| byte != 0) {
+        return Err(format!("spare bytes: {:?}", board.parts().held));
+    }
+    Ok((taken, number == Number::Accepted))
+}
+
+fn play(run: &Run, fault: Fault, counts: &mut Counts) -> Result<(), Miss> {
+    counts.runs += 1;
+    let mut board = Board::fresh();
+    let mut second = Second::fresh();
+    if let Some(text) = same::difference(&board, &second) {
+        return Err(Miss { step: 0, text: format!("fresh boards: {text}") });
+    }
+    if let Some(parts) = run.start {
+        board = Board::from_parts(parts);
+        second = same::second_of(&parts);
+    }
+    for (step, s) in run.steps.iter().enumerate() {
+        let kept = match &s.change {
+            Some(change) => {
+                let kept = (board.clone(), second.clone());
+                let mut parts = *board.parts();
+                change.apply(&mut parts);
+                board = Board::from_parts(parts);
+                second = same::second_of(&parts);
+                (!matches!(change, Change::Spare(_))).then_some(kept)
+            }
+            None => None,
+        };
+        let mut rest = &s.piece[..];
+        loop {
+            match call(&mut board, &mut second, fault, rest, s.stamp, s.room, counts) {
+                Err(text) => return Err(Miss { step, text }),
+                Ok((taken, accepted)) => {
+                    rest = &rest[taken..];
+                    if rest.is_empty() || taken == 0 || !accepted {
+                        break;
+                    }
+                }
+            }
+        }
+        if let Some((b, s)) = kept {
+            (board, second) = (b, s);
+        }
+    }
+    Ok(())
+}
+
+/// A run's bytes: units of every kind, whole or in part.
+fn bytes(random: &mut Random) -> Vec<Vec<u8>> {
+    let units = 1 + random.below(12);
+    let mut all = vec![];
+    for _ in 0..units {
+        let mut unit = match random.below(100) {
+            0..=7 => vec![0; 1 + random.below(3)],
+            8..=25 => frames::get(random),
+            26..=35 => frames::order(random),
+            36..=53 => frames::good_set(random),
+            54..=61 => frames::zero_set(random),
+            62..=74 => frames::bad_set(random),
+            75..=85 => frames::damaged_set(random),
+            _ => frames::unknown(random),
+        };
+        if random.percent(3) {
+            unit.truncate(1 + random.below(unit.len()));
+        }
+        if random.percent(1) {
+            unit.insert(random.below(unit.len()), random.word() as u8);
+        }
+        all.push(unit);
+    }
+    all
+}
+
+fn cut(random: &mut Random, units: Vec<Vec<u8>>) -> Vec<Vec<u8>> {
+    let style = random.below(5);
+    if style == 0 {
+        return units;
+    }
+    let all = units.concat();
+    let mut pieces = vec![];
+    let mut rest = &all[..];
+    while !rest.is_empty() {
+        let n = match style {
+            1 => 1 + random.below(4),
+            2 => 1 + random.below(60),
+            3 => random.pick(&[249, 250, 250]),
+            _ => 1 + random.below(250),
+        };
+        let (piece, more) = rest.split_at(n.min(rest.len()));
+        pieces.push(piece.to_vec());
+        rest = more;
+    }
+    pieces
+}
+
+fn later(random: &mut Random, stamp: u32, calm: bool) -> u32 {
+    let chance = if calm { 70 } else { 100 };
+    stamp.wrapping_add(match random.below(chance) {
+        0..=44 => random.below(12) as u32,
+        45..=56 => 399,
+        57..=70 => 400,
+        71..=82 => 401,
+        83..=86 => random.below(1000) as u32,
+        87..=90 => random.word() as u32,
+        // Back: by little a long wait, by nearly a round a short one.
+        91..=93 => 0u32.wrapping_sub(random.below(500) as u32),
+        94 => 0x8000_0000,
+        // To the counter's end, so that the next wait crosses it.
+        _ => (u32::MAX - random.below(420) as u32).wrapping_sub(stamp),
+    })
+}
+
+fn room(random: &mut Random) -> usize {
+    match random.below(10) {
+        0..=2 => 48,
+        3 => 49 + random.below(8),
+        4 => 250,
+        5 => 300,
+        _ => 48 + random.below(253),
+    }
+}
+
+/// The beginning of a set, its name at least.
+fn beginning(random: &mut Random) -> Vec<u8> {
+    let mut frame = frames::good_set(random);
+    frame.truncate(4 + random.below(frame.len() - 4));
+    frame
+}
+
+/// A state by hand: a rule of soundness broken, or just kept.
+fn change(random: &mut Random) -> Change {
+    match random.below(16) {
+        0..=5 => {
+            let block = random.pick(&[1, 2, 3, 4, 5, 7]);
+            Change::Data(block, frames::data(random, block, 1))
+        }
+        6 => Change::Flags(random.pick(&[7, 8, 9, 128, 255])),
+        7 => Change::Held(vec![0], 1),
+        8 => Change::Held(vec![0, random.word() as u8, b's'], 2 + random.below(2)),
+        9 => Change::Held(frames::unknown(random), 4),
+        10 => Change::Held([frames::name(random), vec![0; 3]].concat(), 4 + random.below(4)),
+        11 | 12 => {
+            // A set's frame, less a byte, whole, or with bytes behind it.
+            let frame = frames::good_set(random);
+            let n = (frame.len() + random.below(3) - 1).min(48);
+            let mut held = [frame, vec![1]].concat();
+            held.truncate(n);
+            Change::Held(held, n)
+        }
+        13 => Change::Held(beginning(random), random.pick(&[48, 49, 50, 255, 256, 260, 1 << 32, (1 << 32) + 4, usize::MAX])),
+        _ => Change::Spare(random.pick(&[1, 0x73, 0xFF])),
+    }
+}
+
+/// A sound state, and the bytes that would finish its unit.
+fn sound(random: &mut Random) -> (Parts, Vec<u8>) {
+    let mut parts = *Board::fresh().parts();
+    for block in 1..=7 {
+        let data = frames::data(random, block, 0);
+        same::put_data(&mut parts.settings, block, &data);
+    }
+    parts.notes.flags = random.below(8) as u8;
+    parts.notes.block = random.pick(&[0, 1, 7, 8, 256, usize::MAX]);
+    parts.notes.field = random.pick(&[0, 1, 8, 9, 256, usize::MAX]);
+    parts.stamp = random.word() as u32;
+    let unit = match random.below(3) {
+        0 => vec![],
+        1 => frames::name(random),
+        _ => frames::good_set(random),
+    };
+    let (held, rest) = unit.split_at(random.below(unit.len().max(1)));
+    Change::Held(held.to_vec(), held.len()).apply(&mut parts);
+    if random.percent(30) {
+        Change::Spare(0x73).apply(&mut parts);
+    }
+    (parts, rest.to_vec())
+}
+
+fn random_run(random: &mut Random) -> Run {
+    let mut all = bytes(random);
+    let mut start = None;
+    if random.percent(30) {
+        let (parts, rest) = sound(random);
+        if random.percent(70) {
+            all.insert(0, rest);
+        }
+        start = Some(parts);
+    }
+    // A calm run has no wait over 400.
+    let calm = random.percent(60);
+    let mut stamp = match (start, random.below(3)) {
+        (Some(parts), _) => later(random, parts.stamp, calm),
+        (_, 0) => 0,
+        (_, 1) => u32::MAX - random.below(1000) as u32,
+        _ => random.word() as u32,
+    };
+    let mut steps = vec![];
+    for piece in cut(random, all) {
+        // Calls aside, which take nothing.
+        if random.percent(12) {
+            let mut aside = Step { change: None, piece: piece.clone(), stamp: later(random, stamp, false), room: room(random) };
+            match random.below(6) {
+                0 => aside.piece.clear(),
+                1 => aside.room = if random.percent(50) { 47 } else { random.below(48) },
+                2 => aside.piece.resize(251 + random.below(10), b's'),
+                3 => {
+                    aside.room = 47;
+                    aside.piece.resize(251, 0);
+                }
+                4 => aside.change = Some(change(random)),
+                _ => {
+                    aside.change = Some(change(random));
+                    aside.room = random.pick(&[47, 48]);
+                }
+            }
+            if let Some(Change::Spare(_)) = aside.change {
+                // Spare bytes stay: nothing is to be lost by the call.
+                aside.piece.clear();
+            }
+            steps.push(aside);
+        }
+        steps.push(Step { change: None, piece, stamp, room: room(random) });
+        stamp = later(random, stamp, calm);
+    }
+    Run { start, steps }
+}
+
+/// The shortest failing run that dropping calls and bytes leads to.
+fn shortest(mut run: Run, fault: Fault) -> (Run, Miss) {
+    let fails = |run: &Run| play(run, fault, &mut Counts::default()).err();
+    let mut miss = fails(&run).expect("it failed before");
+    loop {
+        run.steps.truncate(miss.step + 1);
+        let mut tries = vec![Run { start: None, ..run.clone() }];
+        tries.retain(|_| run.start.is_some());
+        let steps = run.steps.len();
+        for size in [steps / 2, steps / 4, 2, 1] {
+            for from in (0..steps).step_by(size.max(1)) {
+                if size > 0 && size < steps && from + size <= steps {
+                    let mut less = run.clone();
+                    less.steps.drain(from..from + size);
+                    tries.push(less);
+                }
+            }
+        }
+        for i in 0..steps {
+            let n = run.steps[i].piece.len();
+            for size in [n / 2, n / 4, n / 8, 2, 1] {
+                for from in (0..n).step_by(size.max(1)) {
+                    if size > 0 && from + size <= n {
+                        let mut less = run.clone();
+                        less.steps[i].piece.drain(from..from + size);
+                        tries.push(less);
+                    }
+                }
+            }
+            if i + 1 < steps && run.steps[i].change.is_none() && run.steps[i + 1].change.is_none() {
+                let mut less = run.clone();
+                let next = less.steps.remove(i + 1);
+                less.steps[i].piece.extend(next.piece);
+                tries.push(less);
+            }
+        }
+        match tries.into_iter().find_map(|less| fails(&less).map(|miss| (less, miss))) {
+            Some((less, next)) => (run, miss) = (less, next),
+            None => return (run, miss),
+        }
+    }
+}
+
+fn show(run: &Run, miss: &Miss) {
+    match &run.start {
+        Some(parts) => println!("  begins with {parts:?}"),
+        None => println!("  begins with a fresh board"),
+    }
+    for step in &run.steps {
+        if let Some(change) = &step.change {
+            println!("  state by hand: {change:?}");
+        }
+        println!("  stamp {} room {} piece of {} {}", step.stamp, step.room, step.piece.len(), hex(&step.piece));
+    }
+    println!("  {}", miss.text);
+}
+
+/// Runs until a disagreement or until so many units are counted.
+fn compare(seed: u64, units: usize, fault: Fault) -> (Counts, Option<Run>) {
+    let mut random = Random(seed);
+    let mut counts = Counts::default();
+    while counts.units < units && counts.runs < units {
+        let run = random_run(&mut random);
+        if play(&run, fault, &mut counts).is_err() {
+            return (counts, Some(run));
+        }
+    }
+    (counts, None)
+}
+
+fn main() -> ExitCode {
+    let mut seed = 20_240_607;
+    let mut units = 2_000_000;
+    let mut broken: Option<String> = None;
+    let mut shown = false;
+    let mut args = std::env::args().skip(1);
+    while let Some(arg) = args.next() {
+        let mut value = || args.next().unwrap_or_default();
+        let read = match arg.as_str() {
+            "--seed" => value().parse().map(|n| seed = n).is_ok(),
+            "--units" => value().parse().map(|n| units = n).is_ok(),
+            "--break" => {
+                broken = Some(value());
+                true
+            }
+            "--show" => {
+                shown = true;
+                true
+            }
+            _ => false,
+        };
+        if !read {
+            eprintln!("usage: compare [--seed N] [--units N] [--break NAME|all] [--show]");
+            return ExitCode::from(2);
+        }
+    }
+
+    if let Some(name) = broken {
+        let faults: Vec<Fault> = Fault::ALL.iter().copied().filter(|f| name == "all" || f.name() == name).collect();
+        if faults.is_empty() {
+            eprintln!("no fault named {name}; there are:");
+            Fault::ALL.iter().for_each(|f| eprintln!("  {}", f.name()));
+            return ExitCode::from(2);
+        }
+        let mut all_caught = true;
+        for fault in faults {
+            match compare(seed, units, fault) {
+                (counts, Some(run)) => {
+                    println!("caught {} after {} units", fault.name(), counts.units);
+                    if shown {
+                        let (run, miss) = shortest(run, fault);
+                        show(&run, &miss);
+                    }
+                }
+                (counts, None) => {
+                    println!("not caught {} in {} units", fault.name(), counts.units);
+                    all_caught = false;
+                }
+            }
+        }
+        return if all_caught { ExitCode::SUCCESS } else { ExitCode::FAILURE };
+    }
+
+    let (counts, failed) = compare(seed, units, Fault::None);
+    let [_, one, two, three] = counts.numbers;
+    let [zero, errc, get, order, set, errd, errv] = counts.kinds;
+    println!(
+        "compared {} units ({set} sets, {get} gets, {order} orders, {errv} errv, {errd} errd, {errc} errc, {zero} zeros) in {} runs, \
+         {} calls of which {} refused ({one} by 1, {two} by 2, {three} by 3), {} bytes, seed {seed}",
+        counts.units,
+        counts.runs,
+        counts.calls,
+        one + two + three,
+        counts.bytes
+    );
+    match failed {
+        Some(run) => {
+            let (run, miss) = shortest(run, Fault::None);
+            println!("the two disagree, at the shortest on:");
+            show(&run, &miss);
+            ExitCode::FAILURE
+        }
+        None => ExitCode::SUCCESS,
+    }
+}

@@ -1,0 +1,297 @@
+//! The proved receiver, libboard.a, behind safe types.
+//!
+//! A `Board` comes from `fresh` and changes by `receive` only, so it is always sound. What a call took and wrote comes as slices: the rest
+//! that is to be offered again, and the reply.
+
+/// Block 1.
+#[repr(C)]
+#[derive(Clone, Copy, PartialEq, Debug)]
+pub struct Mov {
+    pub speed: u32,
+    pub u_speed: u8,
+    pub accel: u16,
+    pub decel: u16,
+    pub antiplay_speed: u32,
+    pub u_antiplay_speed: u8,
+}
+
+/// Block 2.
+#[repr(C)]
+#[derive(Clone, Copy, PartialEq, Debug)]
+pub struct Eng {
+    pub nom_voltage: u16,
+    pub nom_current: u16,
+    pub nom_speed: u32,
+    pub u_nom_speed: u8,
+    pub engine_flags: u16,
+    pub antiplay: i16,
+    pub microstep_mode: u8,
+    pub steps_per_rev: u16,
+}
+
+/// Block 3.
+#[repr(C)]
+#[derive(Clone, Copy, PartialEq, Debug)]
+pub struct Pwr {
+    pub hold_current: u8,
+    pub curr_reduct_delay: u16,
+    pub power_off_delay: u16,
+    pub current_set_time: u16,
+    pub power_flags: u8,
+}
+
+/// Block 4.
+#[repr(C)]
+#[derive(Clone, Copy, PartialEq, Debug)]
+pub struct Eds {
+    pub border_flags: u8,
+    pub ender_flags: u8,
+    pub left_border: i32,
+    pub u_left_border: i16,
+    pub right_border: i32,
+    pub u_right_border: i16,
+}
+
+/// Block 5.
+#[repr(C)]
+#[derive(Clone, Copy, PartialEq, Debug)]
+pub struct Hom {
+    pub fast_home: u32,
+    pub u_fast_home: u8,
+    pub slow_home: u32,
+    pub u_slow_home: u8,
+    pub home_delta: i32,
+    pub u_home_delta: i16,
+    pub home_flags: u16,
+}
+
+/// Block 6.
+#[repr(C)]
+#[derive(Clone, Copy, PartialEq, Debug)]
+pub struct Brk {
+    pub t1: u16,
+    pub t2: u16,
+    pub t3: u16,
+    pub t4: u16,
+    pub brake_flags: u8,
+}
+
+/// Block 7.
+#[repr(C)]
+#[derive(Clone, Copy, Debug)]
+pub struct Pid {
+    pub kp_u: u16,
+    pub ki_u: u16,
+    pub kd_u: u16,
+    pub kpf: f32,
+    pub kif: f32,
+    pub kdf: f32,
+}
+
+/// Equal when the very bits are.
+impl PartialEq for Pid {
+    fn eq(&self, other: &Pid) -> bool {
+        let bits = |p: &Pid| (p.kp_u, p.ki_u, p.kd_u, p.kpf.to_bits(), p.kif.to_bits(), p.kdf.to_bits());
+        bits(self) == bits(other)
+    }
+}
+
+#[repr(C)]
+#[derive(Clone, Copy, PartialEq, Debug)]
+pub struct Settings {
+    pub mov: Mov,
+    pub eng: Eng,
+    pub pwr: Pwr,
+    pub eds: Eds,
+    pub hom: Hom,
+    pub brk: Brk,
+    pub pid: Pid,
+}
+
+#[repr(C)]
+#[derive(Clone, Copy, PartialEq, Debug)]
+pub struct Notes {
+    pub flags: u8,
+    pub block: usize,
+    pub field: usize,
+}
+
+/// What a board consists of. Every value can be handed to the library: it answers `Unsound` to those that no board reaches.
+#[repr(C)]
+#[derive(Clone, Copy, PartialEq, Debug)]
+pub struct Parts {
+    pub settings: Settings,
+    pub notes: Notes,
+    pub held: [u8; 48],
+    pub count: usize,
+    pub stamp: u32,
+}
+
+#[repr(C)]
+struct Answer {
+    number: u8,
+    order: u8,
+    taken: usize,
+    written: usize,
+    board: Parts,
+}
+
+extern "C" {
+    fn rivertosku_fresh() -> Parts;
+    fn rivertosku_receive(board: Parts, piece: *const u8, piece_len: usize, stamp: u32, reply: *mut u8, reply_len: usize) -> Answer;
+}
+
+/// 01's number of a call's answer.
+#[derive(Clone, Copy, PartialEq, Eq, Debug)]
+pub enum Number {
+    Accepted = 0,
+    PieceTooLong = 1,
+    RoomTooSmall = 2,
+    Unsound = 3,
+}
+
+#[derive(Clone, Copy, PartialEq, Eq, Debug)]
+pub enum Order {
+    Stop = 1,
+    Sstp = 2,
+    Pwof = 3,
+    Left = 4,
+    Rigt = 5,
+    Home = 6,
+    Loft = 7,
+}
+
+/// What a call answers.
+#[must_use = "the order is to be carried out, the reply sent, and the rest of the piece offered again with its stamp"]
+#[derive(Debug)]
+pub struct Call<'p, 'r> {
+    pub number: Number,
+    pub taken: usize,
+    pub order: Option<Order>,
+    /// The bytes not taken.
+    pub rest: &'p [u8],
+    /// The bytes written.
+    pub reply: &'r [u8],
+}
+
+/// A board's state between calls.
+#[derive(Clone, PartialEq, Debug)]
+pub struct Board(Parts);
+
+impl Board {
+    /// The longest piece that a call accepts.
+    pub const PIECE: usize = 250;
+    /// The least room for replies that a call accepts.
+    pub const ROOM: usize = 48;
+
+    /// A board that has taken nothing yet.
+    pub fn fresh() -> Board {
+        // SAFETY: no arguments; the struct is the library's, field for field.
+        Board(unsafe { rivertosku_fresh() })
+    }
+
+    /// One call: a piece of bytes that share a stamp in milliseconds, and room for the replies. A refused call changes nothing.
+    pub fn receive<'p, 'r>(&mut self, piece: &'p [u8], stamp: u32, reply: &'r mut [u8]) -> Call<'p, 'r> {
+        // SAFETY: both parts are live, of these lengths, and apart; the library keeps neither; any board value is allowed.
+        let answer = unsafe { rivertosku_receive(self.0, piece.as_ptr(), piece.len(), stamp, reply.as_mut_ptr(), reply.len()) };
+        self.0 = answer.board;
+        Call {
+            number: match answer.number {
+                0 => Number::Accepted,
+                1 => Number::PieceTooLong,
+                2 => Number::RoomTooSmall,
+                3 => Number::Unsound,
+                n => panic!("the library answered number {n}"),
+            },
+            taken: answer.taken,
+            order: match answer.order {
+                0 => None,
+                1 => Some(Order::Stop),
+                2 => Some(Order::Sstp),
+                3 => Some(Order::Pwof),
+                4 => Some(Order::Left),
+                5 => Some(Order::Rigt),
+                6 => Some(Order::Home),
+                7 => Some(Order::Loft),
+                n => panic!("the library answered order {n}"),
+            },
+            rest: &piece[answer.taken..],
+            reply: &reply[..answer.written],
+        }
+    }
+
+    pub fn settings(&self) -> &Settings {
+        &self.0.settings
+    }
+
+    /// Bits 1 (command error), 2 (data error), 4 (value error).
+    pub fn flags(&self) -> u8 {
+        self.0.notes.flags
+    }
+
+    /// Block and field last refused, if any was.
+    pub fn last_refused(&self) -> Option<(usize, usize)> {
+        match (self.0.notes.block, self.0.notes.field) {
+            (0, 0) => None,
+            refused => Some(refused),
+        }
+    }
+
+    /// The bytes of the unit that has not ended yet.
+    pub fn unfinished(&self) -> &[u8] {
+        &self.0.held[..self.0.count.min(48)]
+    }
+
+    /// The stamp of the last byte taken.
+    pub fn stamp(&self) -> u32 {
+        self.0.stamp
+    }
+
+    /// For tests: what the board consists of.
+    pub fn parts(&self) -> &Parts {
+        &self.0
+    }
+
+    /// For tests: a board out of any parts, sound or not.
+    pub fn from_parts(parts: Parts) -> Board {
+        Board(parts)
+    }
+}
+
+#[cfg(test)]
+mod tests {
+    use super::*;
+    use std::mem::size_of;
+
+    /// The sizes that c/rivertosku.h asserts. Shown by `cargo test sizes -- --nocapture`.
+    #[test]
+    fn sizes() {
+        let sizes = [
+            size_of::<Mov>(),
+            size_of::<Eng>(),
+            size_of::<Pwr>(),
+            size_of::<Eds>(),
+            size_of::<Hom>(),
+            size_of::<Brk>(),
+            size_of::<Pid>(),
+            size_of::<Settings>(),
+            size_of::<Notes>(),
+            size_of::<Parts>(),
+            size_of::<Answer>(),
+        ];
+        println!("mov eng pwr eds hom brk pid settings notes board answer: {sizes:?}");
+        assert_eq!(sizes, [20, 20, 10, 20, 24, 10, 20, 128, 24, 216, 240]);
+    }
+
+    #[test]
+    fn order_and_rest() {
+        let mut board = Board::fresh();
+        let mut room = [0; Board::ROOM];
+        let call = board.receive(b"stopxxxx\0le", 1000, &mut room);
+        assert_eq!((call.number, call.order, call.reply), (Number::Accepted, Some(Order::Stop), &b"stop"[..]));
+        let call = board.receive(call.rest, 1000, &mut room);
+        assert_eq!((call.order, call.reply, call.rest), (None, &b"errc\0"[..], &b""[..]));
+        assert_eq!((board.flags(), board.unfinished(), board.stamp()), (1, &b"le"[..], 1000));
+        assert_eq!(board.last_refused(), None);
+    }
+}

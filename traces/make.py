@@ -1,0 +1,94 @@
+#!/usr/bin/env python3
+"""Writes the traces of this folder, NAME.bin, and what the bench must print of each, NAME.out. ./check needs neither."""
+import os
+import sys
+
+sys.dont_write_bytecode = True
+from bench import ANY, BLOCKS, ORDERS, bench, frame, passes, record
+
+
+def joined(first, step, pieces):
+    return b''.join(record(first + step * k, piece) for k, piece in enumerate(pieces))
+
+
+def good(field, k):
+    """A number that the k-th field takes, no fresh one: floats -0.0, the least above 0, the largest finite."""
+    if field[0] == 'F':
+        return [0x80000000, 1, 0x7F7FFFFF][k % 3]
+    if field[1] is not ANY:
+        return field[2] - k
+    return -3 - k if field[0].islower() else 7 + k
+
+
+def bad(field):
+    """A number of the field's width out of its range, or None where every one passes."""
+    tries = [0x7F800000] if field[0] == 'F' else [] if field[1] is ANY else [field[2] + 1, field[1] - 1]
+    top = {'B': 256, 'H': 65536, 'h': 32768}.get(field[0], 2**32)
+    return next((n for n in tries if not passes(field, n) and n < top), None)
+
+
+def every_unit(name):
+    """Get, set with reserved bytes, get, wrong CRC, each field out of range, get."""
+    fields, get = BLOCKS[name][0], b'g' + name.encode()
+    kept = [good(f, k) for k, f in enumerate(fields)]
+    yield from [get, frame(name, kept, reserved=255), get]
+    yield frame(name, [0 if f[1] is ANY else f[1] for f in fields], wrong=1)
+    for k, field in enumerate(fields):
+        if bad(field) is not None:
+            yield frame(name, kept[:k] + [bad(field)] + kept[k + 1:])
+    yield get
+
+
+def units():
+    for name in BLOCKS:
+        yield from every_unit(name)
+    yield from [order.encode() for order in ORDERS]
+    yield from [b'\0', b'righ', b't', b'errc', b'smow', b'gxyz', b's\0\0\0\0', b'STOP', b'stopleftxxxxhome\0gbrkloft', b'']
+
+
+def night():
+    """Two sets that lost a byte. The first one eats the next frame's first byte, and what follows is misread until a wait; the second one
+    is dropped by a wait alone. The setting stays what it was."""
+    power = [50, 1000, 60, 300, 3]
+    damaged = frame('pwr', [99, 1000, 60, 300, 3])
+    damaged = damaged[:9] + damaged[10:]
+    return b''.join(record(*r) for r in [
+        (1000, frame('pwr', power)), (2000, b'gpwr'),
+        (60000, damaged), (60100, b'stop'), (60200, b'left'), (60700, b'stop'), (61000, b'gpwr'),
+        (90000, damaged), (90401, b'stop'), (90500, b'gpwr')])
+
+
+WAITS = [(4294967200, b'st'), (304, b'op'), (4294967200, b'st'), (305, b'op'), (706, b'st'), (1106, b'op'), (2000, b'st'), (2401, b'\0'),
+         (3000, b'st'), (3300, b''), (3401, b'op'), (3400, b'xx')]
+BEFORE, NEXT = record(1000, b'stop\0'), record(2000, b'left')
+SET = frame('brk', [1, 2, 3, 4, 5])
+
+TRACES = {
+    'example': record(1000, b'stopxxxx\0') + record(2000, b'le') + record(2401, b'ft'),
+    'units': joined(1000, 500, units()),
+    'night': night(),
+    'waits': b''.join(record(*r) for r in WAITS),
+    'pieces': joined(1000, 400, [SET[:1], SET[1:3], SET[3:5], b'', SET[5:24], SET[24:] + b'gb', b'rk']),
+    'room': joined(1000, 500, [b'gpid' * 6, b'\0' * 250, b'gpid' * 5 + b'xxxxyyyy\0\0\0', b'gpid' * 60 + b'stop']),
+    'empty': b'',
+    'empty_record': record(7, b'') + record(4294967295, b'') + NEXT,
+    'bad_first': b'lK' + NEXT[2:],
+    'bad_mark': BEFORE + b'KK' + NEXT[2:] + NEXT,
+    'bad_second_mark': BEFORE + b'LL' + NEXT[2:] + NEXT,
+    'bad_count': BEFORE + NEXT[:6] + bytes([251]) + bytes(251) + NEXT,
+    'cut_mark': BEFORE + NEXT[:1],
+    'cut_stamp': BEFORE + NEXT[:5],
+    'cut_count': BEFORE + NEXT[:6],
+    'cut_bytes': BEFORE + NEXT[:-1],
+    'cut_all_bytes': BEFORE + NEXT[:7],
+    'full': joined(0, 100, [SET * 10] * 233) + record(30000, SET * 4 + b'left' * 3),
+}
+TRACES['too_long'] = TRACES['full'] + b'\0'
+assert len(TRACES['full']) == 60000
+
+os.chdir(os.path.dirname(os.path.abspath(__file__)))
+for name, trace in TRACES.items():
+    with open(name + '.bin', 'wb') as f:
+        f.write(trace)
+    with open(name + '.out', 'w') as f:
+        f.write(bench(trace))
