@@ -1,4 +1,4 @@
-//! A second receiver, written from sheet 01 alone. It goes byte by byte and keeps each block as the data section that a get sends.
+//! A second receiver, written from sheet 01, with no code or table of the library. It goes byte by byte and keeps each block as the data section that a get sends.
 //! It can be broken on purpose (`Fault`), to see that a comparison notices.
 
 macro_rules! faults {
