@@ -120,7 +120,7 @@ struct rivertosku_settings {
 
 /* Flags, and the block and field that an errv refused last (0 and 0: none). */
 struct rivertosku_notes {
-    uint8_t flags;
+    size_t flags;
     size_t block;
     size_t field;
 };

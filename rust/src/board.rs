@@ -111,7 +111,7 @@ pub struct Settings {
 #[repr(C)]
 #[derive(Clone, Copy, PartialEq, Debug)]
 pub struct Notes {
-    pub flags: u8,
+    pub flags: usize,
     pub block: usize,
     pub field: usize,
 }
@@ -225,7 +225,7 @@ impl Board {
     }
 
     /// Bits 1 (command error), 2 (data error), 4 (value error).
-    pub fn flags(&self) -> u8 {
+    pub fn flags(&self) -> usize {
         self.0.notes.flags
     }
 

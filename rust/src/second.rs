@@ -66,7 +66,7 @@ pub const DATA: usize = 42;
 pub struct Second {
     /// Each block's data section, reserved bytes zero, zeros behind it.
     pub data: [[u8; DATA]; 7],
-    pub flags: u8,
+    pub flags: usize,
     /// Block and field last refused.
     pub refused: (usize, usize),
     /// The unfinished unit: its first `len` bytes count.
@@ -241,7 +241,7 @@ impl Second {
     }
 
     #[inline(always)]
-    fn raise(&mut self, fault: Fault, bit: u8) {
+    fn raise(&mut self, fault: Fault, bit: usize) {
         self.flags = if fault == Fault::FlagsOverwritten { bit } else { self.flags | bit };
     }
 

@@ -1,1 +1,3 @@
 mod Answers
+mod Traces
+mod Rest

@@ -2,11 +2,19 @@
 use receiver::Board;
 use receiver::Call;
 use trace::Reading;
+ghost use mathlib.Core.Bool.{true};
 ghost use mathlib.Core.Path.{_≡_};
+ghost use Prim.Native.Nat.{_≤_};
+ghost use lib.ListN.{length};
+ghost use Rattle.rule.specs.Run.{at as stamped};
+ghost use Rattle.rule.specs.Rule.{wholeRun};
+ghost use Rattle.rule.specs.Step.{steps};
 ghost use Rattle.rule.specs.Calls.{call as rules};
-ghost use Rattle.unit.specs.Protocol.{protocol};
-ghost use Rattle.receiver.specs.State.{stateOf};
+ghost use Rattle.unit.specs.Unit.{freshMemory};
+ghost use Rattle.unit.specs.Protocol.{protocol, soundState};
+ghost use Rattle.receiver.specs.State.{stateOf, boardOf};
 ghost use Rattle.receiver.specs.Receive.{answer};
+ghost use Rattle.bench.specs.Trace.{runIn};
 
 fn say(text: &[u8]) {
     io::write_all(1, text);
@@ -40,41 +48,41 @@ fn call_once(board: Board, stamp: u32, piece: &[u8]) -> Call
     call
 }
 
-// Calls until all of a record's bytes are taken, at least once. An accepted call on some bytes takes one at least, so none that takes 0 is
-// followed by another.
-fn offer(board: Board, stamp: u32, piece: &[u8]) -> Board {
+// Calls until all of a record's bytes are taken, at least once: a call on some bytes takes one at least, since the board is sound.
+fn offer(board: Board, stamp: u32, piece: &[u8]) -> Board
+    requires { ⌜ (soundState (stateOf board) ≡ true) × (board ≡ boardOf (stateOf board)) × (length (now piece) ≤ 250) ⌝ }
+    ensures { λ r. ⌜ r ≡ boardOf (steps protocol (stateOf board) (stamped stamp (now (piece .entry))) .next) ⌝ }
+{
     let mut cur = board;
     let mut at = 0;
     loop {
         let call = call_once(cur, stamp, &piece[at..]);
-        let taken = call.taken;
         cur = call.board;
-        at += taken;
-        if taken == 0 {
-            return cur;
-        }
+        at += call.taken;
         if piece.len() <= at {
             return cur;
         }
     }
 }
 
-// Record after record, until the bytes end or one is bad.
-fn run(bytes: &[u8]) {
+// Record after record, until the bytes end or one is bad; the board at the end.
+fn run(bytes: &[u8]) -> Board
+    ensures { λ r. ⌜ r ≡ boardOf (wholeRun protocol freshMemory 0 (runIn (now (bytes .entry))) .next) ⌝ }
+{
     let mut board = receiver::fresh();
     let mut at = 0;
     while at < bytes.len() {
         let reading = trace::read_record(&bytes[at..]);
         let Reading::Record(head) = reading else {
             say_bad(at);
-            break;
+            return board;
         };
         let from = at + 7;
         let to = from + head.count;
         board = offer(board, head.stamp, &bytes[from..to]);
         at = to;
     }
-    say_end(board);
+    board
 }
 
 fn main() {
@@ -84,5 +92,5 @@ fn main() {
         say(b"too long\n");
         return;
     }
-    run(&input[..n]);
+    say_end(run(&input[..n]));
 }

@@ -1,5 +1,6 @@
 pub mod Lists
 pub mod Held
 pub mod Turns
+pub mod Line
 pub mod Calls
 pub mod Demands

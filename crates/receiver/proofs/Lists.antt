@@ -1,12 +1,12 @@
--- Facts on lists: the bytes held with zeros behind them, and a reply written into the lent rest of a buffer. Assumes nothing.
+-- Facts on lists: the bytes held with zeros behind them, the line they begin, and a reply written into the lent rest of a buffer. Assumes nothing.
 use mathlib.Core.Path.{_≡_, refl, ap, sym, _∙_}
 use mathlib.Core.List.{List, [], _∷_, _++_, append-nil, append-assoc}
 use Prim.Native.Nat.{ℕ, suc, _+_, _-_, _≤_, _<_}
 use native.Mathlib.Nat.{add-zero}
 use native.Mathlib.Numerals.{add-one}
 use native.Mathlib.Omega.{arith}
-use lib.ListN.{length, set, take, drop, replicate, length-append, length-replicate, drop-of-length-le}
-use lib.Seq.{sets, sets-eq, length-sets, set-at, set-set, length-take-le, take-at, drop-at, take-append-seam}
+use lib.ListN.{length, set, take, drop, replicate, length-append, length-take, length-replicate}
+use lib.Seq.{sets, sets-eq, length-sets, set-at, length-take-le, take-at, drop-at, take-append-seam}
 use borrow.Rule.Slice.PartMut.{midOf, putMid}
 use Rattle.wire.proofs.Stores.{sets-rest}
 use Rattle.receiver.specs.State.{padded}
@@ -29,18 +29,6 @@ padded-set u x h =
     let f : 48 - length (u ++ x ∷ []) ≡ k = omega (arith, length-append u (x ∷ [])) in
     rw (e, f) (set-at u 0 (replicate k 0) x (length u) refl ∙ sym (append-assoc u (x ∷ []) (replicate k 0)))
 
--- a zero behind them is there already
-pub padded-zero : (u : List ℕ) → length u < 48 → set (padded u) (length u) 0 ≡ padded u
-unfolding padded
-padded-zero u h =
-    let k = 48 - length u - 1 in
-    let e : 48 - length u ≡ suc k = omega arith in
-    rw e (set-at u 0 (replicate k 0) 0 (length u) refl)
-
--- a byte that was put behind them and taken back
-pub padded-undo : (u : List ℕ) (x : ℕ) → length u < 48 → set (set (padded u) (length u) x) (length u) 0 ≡ padded u
-padded-undo u x h = set-set (padded u) (length u) x 0 ∙ padded-zero u h
-
 pub padded-sets : (w u : List ℕ) → length u + length w ≤ 48 → sets (padded u) (length u) w ≡ padded (u ++ w)
 padded-sets [] u h = rw (append-nil u)
 padded-sets (x ∷ w) u h =
@@ -48,14 +36,24 @@ padded-sets (x ∷ w) u h =
     let ih = padded-sets w (u ++ x ∷ []) (omega arith) in
     rw (padded-set u x (omega arith)) (rw (l, append-assoc) at ih)
 
--- what clearing leaves
-pub cleared : (l : List ℕ) (n : ℕ) → n ≤ 48 → length l ≡ 48 → sets l n (replicate (48 - n) 0) ≡ padded (take n l)
-unfolding padded
-cleared l n h e =
-    let t : length (take n l) ≡ n = length-take-le n l (omega arith) in
-    let z : length {A = ℕ} (replicate (48 - n) 0) ≡ 48 - n = length-replicate {A = ℕ} (48 - n) 0 in
-    let d : drop (n + (48 - n)) l ≡ [] = drop-of-length-le l {i = n + (48 - n)} (omega arith) in
-    sets-eq (replicate (48 - n) 0) l n (omega arith) ∙ rw (z, d, t, append-nil (take n l ++ replicate (48 - n) 0))
+-- a part of a line, laid into zeros
+pub padded-part : (line filled : List ℕ) (from to : ℕ) → to - from ≤ 48 → filled ≡ sets (padded []) 0 (take (to - from) (drop from line))
+    → filled ≡ padded (take (to - from) (drop from line))
+padded-part line filled from to h e =
+    e ∙ padded-sets (take (to - from) (drop from line)) [] (omega (arith, length-take (to - from) (drop from line)))
+
+-- the bytes held and the piece behind them, laid into a buffer that has room for both, are one line
+module _ (zeros u piece one two : List ℕ) (had : ℕ) (first : one ≡ sets zeros 0 u) (second : two ≡ sets one had piece) where
+  pub line-long : length two ≡ length zeros
+  line-long = rw (second, first) (length-sets (sets zeros 0 u) had piece ∙ length-sets zeros 0 u)
+
+  pub line-is : length u ≡ had → had + length piece ≤ length zeros → take (had + length piece) two ≡ u ++ piece
+  line-is e h =
+      let one-is = sets-eq u zeros 0 (omega arith) in
+      let two-is = sets-eq piece (sets zeros 0 u) had (rw (length-sets zeros 0 u) h) in
+      let front : take had (sets zeros 0 u) ≡ u = rw one-is (take-at u (drop (0 + length u) zeros) had e) in
+      rw (second, first, two-is, front)
+      (take-at (u ++ piece) (drop (had + length piece) (sets zeros 0 u)) (had + length piece) (length-append u piece ∙ rw e))
 
 -- ---- a reply `out`, written from w on
 

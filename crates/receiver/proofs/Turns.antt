@@ -1,40 +1,38 @@
--- The turns of the receive loop, each a law over plain variables. Assumes nothing.
+-- The turns of the receive loop, each a law over plain variables: by the rule's laws of units. Assumes nothing.
 use mathlib.Core.Path.{_≡_, refl, ap, sym, _∙_}
-use mathlib.Core.List.{List, [], _∷_, _++_, append-assoc}
-use Prim.Native.Nat.{ℕ, suc, _+_, _-_, _≤_, _<_, min}
-use native.Mathlib.Nat.{sub-zero}
-use native.Mathlib.Numerals.{add-one}
+use mathlib.Core.Bool.{Bool, true, false}
+use mathlib.Core.List.{List, [], _∷_, _++_}
+use Prim.Native.Nat.{ℕ, _+_, _-_, _≤_, _<_}
+use native.Mathlib.Nat.{sub-zero, add-zero}
 use native.Mathlib.Omega.{arith}
-use lib.ListN.{length, getD, set, take, drop, length-append, length-take, length-drop, length-set, take-append-drop, drop-of-length-le}
-use lib.Seq.{sets, drop-cons, length-take-le, drop-drop}
+use lib.Dec.{ltb}
+use lib.ListN.{length, getD, set, take, drop, length-append, length-drop, take-append-drop, drop-of-length-le}
+use lib.Seq.{sets, length-take-le, take-all, getD-take, getD-drop, drop-drop}
+use borrow.Author.Tests.{ltb-true, ltb-false}
 use borrow.Rule.Slice.PartMut.{midOf, putMid}
-use Rattle.rule.specs.Run.{byte}
+use Rattle.wire.specs.Numbers.{leAt}
+use Rattle.wire.proofs.Numbers.{leAt-take, leAt-append}
 use Rattle.rule.specs.Framing.{whole}
-use Rattle.rule.specs.Rule.{Said, State, with-line}
-use Rattle.rule.specs.Step.{step}
+use Rattle.rule.specs.Rule.{Said}
 use Rattle.rule.specs.Calls.{Called, accept}
-use Rattle.rule.specs.Loop.{later, over}
-use Rattle.rule.proofs.Loop.{step-ends, later-start, later-end, later-full, later-turn, later-stop, later-joins}
-use Rattle.unit.specs.Names.{need, due, orderNumber}
-use Rattle.unit.specs.Unit.{Memory, act, answered, zeroed, orderOf, Judges}
+use Rattle.rule.specs.Loop.{stateAt, later, over}
+use Rattle.rule.proofs.Loop.{later-start, later-end}
+use Rattle.rule.proofs.Units.{unit-open, unit-full, unit-turn, unit-stop}
+use Rattle.unit.specs.Names.{kindOf, nameOf, span, replied, need, orderNumber}
+use Rattle.unit.specs.Unit.{Memory, zeroed, act, does, orderOf, Judges}
 use Rattle.unit.specs.Protocol.{protocol}
-use Rattle.unit.proofs.Need.{need-some, need-most}
-use Rattle.unit.proofs.Due.{due-open, due-whole, due-first-zero, due-named, due-alone}
-use Rattle.unit.proofs.Replies.{act-zero, act-named, act-order, given, step-due}
+use Rattle.unit.proofs.Need.{span-least, span-most, need-law, need-zero, need-name, need-span}
+use Rattle.unit.proofs.Replies.{act-zero, act-named, does-length, act-order, given}
 use Rattle.unit.specs.declared.Judged.{Judged}
 use Rattle.unit.specs.declared.names.Order.{Order}
 use Rattle.unit.specs.declared.names.Order.the-variants.{Nothing, Stop, Sstp, Pwof, Left, Rigt, Home, Loft}
-use Rattle.receiver.specs.State.{padded, stateOf, boardOf}
-use Rattle.receiver.specs.Receive.{Tidy, Ran, Quiet}
-use Rattle.receiver.specs.declared.Board.{Board}
+use Rattle.unit.specs.declared.names.Kind.{Kind}
+use Rattle.receiver.specs.Receive.{kept, holding, Ran}
 use Rattle.receiver.specs.declared.Call.{Call}
-use Rattle.receiver.proofs.Lists.{padded-length, padded-take, padded-set, padded-zero, padded-undo, padded-sets, Written, written-at, lent-back}
-
-abbrev pub stateAt : Memory → List ℕ → ℕ → State Memory
-stateAt m u t = record { memory = m; line = record { unfinished = u; last = t } }
+use Rattle.receiver.proofs.Lists.{Written, written-at, lent-back}
 
 -- an order that is none, and one that is
-none-given : (o : Order) → orderNumber o ≡ 0 → given o ≡ []
+none-given : (o : Order) → orderNumber o ≡ 0 → o ≡ Nothing
 none-given Nothing h = refl
 none-given Stop h = absurd (omega arith)
 none-given Sstp h = absurd (omega arith)
@@ -54,280 +52,233 @@ one-given Rigt h = refl
 one-given Home h = refl
 one-given Loft h = refl
 
--- THE INVARIANT. The whole call is c, at the stamp t: i bytes are taken, w bytes are written, the board stands for `memory` and the unfinished
--- bytes `unit`, and the call from there on what is left is still to come
-pub record Inv (c : Called Order Memory) (t : ℕ) (piece reply₀ reply : List ℕ) (cur : Board) (i w : ℕ) : Type 0 where
-  pub memory : Memory
-  pub unit : List ℕ
-  pub is : cur ≡ boardOf (stateAt memory unit t)
-  pub begun : length unit < need unit
-  pub same : c ≡ later protocol i (take w reply) (stateAt memory unit t) t (length reply₀ - w) (drop i piece)
-  pub at : i ≤ length piece
+-- THE INVARIANT. The whole call is c, at the stamp t: i bytes of the line are taken, all in whole units, w bytes are written, `said` keeps what
+-- the units said, none of them an order, and the call from there on what is left is still to come
+pub record Inv (c : Called Order Memory) (t : ℕ) (line reply₀ reply : List ℕ) (said : Judged) (i w : ℕ) : Type 0 where
+  pub none : said .order ≡ Nothing
+  pub same : c ≡ later protocol i (take w reply) (stateAt (kept said) [] t) t (length reply₀ - w) (drop i line)
+  pub at : i ≤ length line
   pub room : w ≤ length reply₀
   pub long : length reply ≡ length reply₀
   pub rest : drop w reply ≡ drop w reply₀
 
--- a call that is over, as the code answers it
-ran-over : (c : Called Order Memory) (k w : ℕ) (out before after : List ℕ) (os : List Order) (s : State Memory) (o : Order) (b : Board) (r : Call)
-    → c ≡ over k out os s → length out ≡ w → o ≡ orderOf os → b ≡ boardOf s → after ≡ out ++ drop w before
-    → r ≡ record { number = 0; taken = k; written = w; order = o; board = b } → Ran c before r after
-ran-over c k w out before after os s o b r e l p q f g =
-    rw e (record { result = g ∙ (λ i. record { number = 0; taken = k; written = sym l i; order = p i; board = q i }); reply = rw l f })
+-- what the code has read of a unit that begins with a name: the name, its kind, and the unit's length n
+pub record Named (line : List ℕ) (i name n : ℕ) (kind : Kind) : Type 0 where
+  pub some : getD line i 0 ≡ 0 → ⊥
+  pub read : name ≡ leAt 4 i line
+  pub looked : kind ≡ kindOf name
+  pub spans : n ≡ span kind
 
--- the loop starts at a tidy board
-pub starts : (b : Board) → Tidy b → (piece reply : List ℕ) → Inv (accept protocol (stateOf b) (b .stamp) (length reply) piece) (b .stamp) piece reply reply b 0 0
-starts b tidy piece reply =
-    let u = take (b .count) (b .held) in
-    let l : length u ≡ min (b .count) (length (b .held)) = length-take (b .count) (b .held) in
-    let f : length (b .held) ≡ 48 = ap length (tidy .zeros) ∙ padded-length u (omega (arith, tidy .count)) in
-    let n : b .count ≡ length u = omega (arith, tidy .count) in
+module _ {line : List ℕ} {i name n : ℕ} {kind : Kind} (it : Named line i name n kind) where
+  pub least : 4 ≤ n
+  least = omega (arith, it .spans, span-least kind)
+
+  pub most : n ≤ 48
+  most = omega (arith, it .spans, span-most kind)
+
+-- a call that is over, as the code answers it
+ran-over : (c : Called Order Memory) (k w t : ℕ) (out before after u : List ℕ) (os : List Order) (said : Judged) (r : Call)
+    → c ≡ over k out os (stateAt (kept said) u t) → length out ≡ w → said .order ≡ orderOf os → after ≡ out ++ drop w before
+    → r ≡ holding said t u k w → Ran c before r after
+ran-over c k w t out before after u os said r e l p f g =
+    rw e (record { result = g ∙ (λ i. holding (record { order = p i; settings = said .settings; notes = said .notes }) t u k (sym l i)); reply = rw l f })
+
+pub starts : (said : Judged) → said .order ≡ Nothing → (t : ℕ) (line reply : List ℕ)
+    → Inv (accept protocol (stateAt (kept said) [] t) t (length reply) line) t line reply reply said 0 0
+starts said h t line reply =
     record {
-      memory = record { settings = b .settings; notes = b .notes };
-      unit = u;
-      is = λ j. record { settings = b .settings; notes = b .notes; held = tidy .zeros j; count = n j; stamp = b .stamp };
-      begun = omega (arith, tidy .begun);
-      same = rw (sub-zero (length reply)) (later-start protocol (stateOf b) (b .stamp) (length reply) piece);
+      none = h;
+      same = rw (sub-zero (length reply)) (later-start protocol (stateAt (kept said) [] t) t (length reply) line);
       at = omega arith;
       room = omega arith;
       long = refl;
       rest = refl;
     }
 
-module _ (c : Called Order Memory) (t : ℕ) (piece reply₀ reply : List ℕ) (cur : Board) (i w : ℕ) (inv : Inv c t piece reply₀ reply cur i w) where
-  short : length (inv .unit) < 48
-  short = omega (arith, inv .begun, need-most (inv .unit))
+module _ (c : Called Order Memory) (t : ℕ) (line reply₀ reply : List ℕ) (said : Judged) (i w : ℕ) (inv : Inv c t line reply₀ reply said i w) where
+  abbrev d : List ℕ
+  d = drop i line
 
-  count-is : cur .count ≡ length (inv .unit)
-  count-is = ap (λ (b : Board). b .count) (inv .is)
+  abbrev m : Memory
+  m = kept said
 
-  pub count-short : cur .count < 48
-  count-short = omega (arith, count-is, short)
+  left-long : length d ≡ length line - i
+  left-long = length-drop i line
 
-  pub held-full : length (cur .held) ≡ 48
-  held-full = rw (inv .is) (padded-length (inv .unit) (omega (arith, short)))
+  -- nothing is written further
+  stops : (k : ℕ) (u : List ℕ) (r : Call) → c ≡ over k (take w reply) [] (stateAt m u t) → r ≡ holding said t u k w → Ran c reply₀ r reply
+  stops k u r e f =
+      ran-over c k w t (take w reply) reply₀ reply u [] said r e (length-take-le w reply (omega (arith, inv .room, inv .long))) (inv .none)
+      (rw (← inv .rest) (sym (take-append-drop w reply))) f
 
-  written : length (take w reply) ≡ w
-  written = length-take-le w reply (omega (arith, inv .room, inv .long))
+  -- no byte is left
+  pub ends : (r : Call) → length line ≤ i → r ≡ holding said t (take (i - i) d) i w → Ran c reply₀ r reply
+  ends r h f =
+      let z : i - i ≡ 0 = omega arith in
+      stops i [] r
+      (inv .same ∙ rw (drop-of-length-le line {i = i} h) (later-end protocol i (take w reply) (stateAt m [] t) t (length reply₀ - w)))
+      (f ∙ rw z)
 
-  kept : reply ≡ take w reply ++ drop w reply₀
-  kept = rw (← inv .rest) (sym (take-append-drop w reply))
+  -- a whole unit of n bytes stands in front, and its reply
+  module _ (n : ℕ) (is : n ≡ need d) (fits : n ≤ length d) where
+    abbrev u : List ℕ
+    u = take n d
 
-  -- the piece has ended
-  pub ends : (r : Call) → length piece ≤ i → r ≡ record { number = 0; taken = i; written = w; order = Nothing; board = cur } → Ran c reply₀ r reply
-  ends r h e =
-      ran-over c i w (take w reply) reply₀ reply [] (stateAt (inv .memory) (inv .unit) t) Nothing cur r
-      (inv .same ∙ rw (drop-of-length-le piece {i = i} h) (later-end protocol i (take w reply) (stateAt (inv .memory) (inv .unit) t) t (length reply₀ - w)))
-      written refl (inv .is) kept e
+    abbrev done : Said Order Memory
+    done = act m (whole u)
 
-  module _ (inside : i < length piece) where
-    abbrev x : ℕ
-    x = getD piece i 0
+    -- does not fit
+    full : (r : Call) → length reply - w < length (done .reply) → r ≡ holding said t (take (n - 1) d) (i + (n - 1)) w → Ran c reply₀ r reply
+    full r h f =
+        stops (i + (n - 1)) (take (n - 1) d) r
+        (inv .same ∙ unit-full protocol need-law i (take w reply) m t (length reply₀ - w) d n is fits (omega (arith, inv .long))) f
 
-    abbrev v : List ℕ
-    v = inv .unit ++ getD piece i 0 ∷ []
+    -- is written at w, and `next` keeps what the unit said
+    module _ (room : length (done .reply) ≤ length reply - w) (next : Judged)
+        (e : next ≡ record { order = orderOf (done .orders); settings = done .next .settings; notes = done .next .notes }) where
+      abbrev out : ℕ
+      out = length (done .reply)
 
-    abbrev s : State Memory
-    s = stateAt (inv .memory) (inv .unit) t
+      abbrev back : List ℕ
+      back = sets reply w (done .reply)
 
-    one-more : c ≡ later protocol i (take w reply) s t (length reply₀ - w) (x ∷ drop (i + 1) piece)
-    one-more = inv .same ∙ rw (drop-cons piece i 0 inside, add-one)
+      wrote : Written reply back (done .reply) w
+      wrote = written-at reply (done .reply) w (omega (arith, inv .room, inv .long))
 
-    -- the byte is put behind the bytes held
-    abbrev pub pushed : List ℕ
-    pushed = set (cur .held) (cur .count) (getD piece i 0)
+      past-is : drop (w + out) back ≡ drop (w + out) reply₀
+      past-is = wrote .past ∙ rw (← drop-drop out w reply, inv .rest, drop-drop)
 
-    count-on : cur .count + 1 ≡ length v
-    count-on = omega (arith, count-is, length-append (inv .unit) (x ∷ []))
+      kept-is : kept next ≡ done .next
+      kept-is = ap kept e
 
-    pushed-is : pushed ≡ padded v
-    pushed-is = rw (inv .is) (padded-set (inv .unit) x short)
+      pub back-long : length back ≡ length reply₀
+      back-long = wrote .long ∙ inv .long
 
-    pushed-unit : take (cur .count + 1) pushed ≡ v
-    pushed-unit = rw (pushed-is, count-on) (padded-take v)
-
-    pub pushed-full : length pushed ≡ 48
-    pushed-full = rw (length-set (cur .held) (cur .count) x) held-full
-
-    pub pushed-long : cur .count + 1 ≡ length (take (cur .count + 1) pushed)
-    pushed-long = sym (length-take-le (cur .count + 1) pushed (omega (arith, pushed-full, count-short)))
-
-    module _ (n : ℕ) (told : n ≡ due (take (cur .count + 1) pushed)) where
-      due-is : n ≡ due v
-      due-is = told ∙ ap due pushed-unit
-
-      -- the reply does not fit, and the byte is taken back
-      pub full : (r : Call) → length reply - w < n
-          → r ≡ record {
-            number = 0;
-            taken = i;
-            written = w;
-            order = Nothing;
-            board = record { settings = cur .settings; notes = cur .notes; held = set pushed (cur .count) 0; count = cur .count; stamp = cur .stamp };
+      turned : next .order ≡ Nothing → Inv c t line reply₀ back next (i + n) (w + out)
+      turned h =
+          let k : length reply₀ - w - out ≡ length reply₀ - (w + out) = omega arith in
+          let os : done .orders ≡ [] = sym (act-order m u) ∙ ap given (sym (ap (λ (y : Judged). y .order) e) ∙ h) in
+          record {
+            none = h;
+            same =
+                inv .same
+                ∙ unit-turn protocol need-law i (take w reply) m t (length reply₀ - w) d n is fits (omega (arith, inv .long)) os
+                ∙ rw (k, ← wrote .front, drop-drop, ← kept-is);
+            at = omega (arith, left-long, inv .at);
+            room = omega (arith, inv .room, inv .long);
+            long = back-long;
+            rest = past-is;
           }
-          → Ran c reply₀ r reply
-      full r h e =
-          let back : set pushed (cur .count) 0 ≡ padded (inv .unit) = rw (inv .is) (padded-undo (inv .unit) x short) in
-          ran-over c i w (take w reply) reply₀ reply [] s Nothing _ r
-          (one-more
-          ∙ later-full protocol i (take w reply) s t (length reply₀ - w) x (drop (i + 1) piece) (rw (step-due (inv .memory) (inv .unit) t x) (omega (arith, inv .long, due-is))))
-          written refl
-          (λ j. record { settings = inv .is j .settings; notes = inv .is j .notes; held = back j; count = inv .is j .count; stamp = inv .is j .stamp })
-          kept e
 
-      -- the byte joins the unit, and k quiet bytes with it
-      module _ (inner : n ≡ 0) where
-        pub pushed-begun : cur .count + 1 < need (take (cur .count + 1) pushed)
-        pushed-begun = rw pushed-unit (omega (arith, count-on, due-open v (sym due-is ∙ inner)))
+      stopped : (orderNumber (next .order) ≡ 0 → ⊥) → (r : Call) → r ≡ holding next t [] (i + n) (w + out) → Ran c reply₀ r back
+      stopped h r f =
+          let o = next .order in
+          let os : done .orders ≡ o ∷ [] = sym (act-order m u) ∙ ap given (sym (ap (λ (y : Judged). y .order) e)) ∙ one-given o h in
+          ran-over c (i + n) (w + out) t (take w reply ++ done .reply) reply₀ back [] (done .orders) next r
+          (inv .same
+          ∙ unit-stop protocol need-law i (take w reply) m t (length reply₀ - w) d n is fits (omega (arith, inv .long)) o [] os
+          ∙ rw (← kept-is))
+          (rw (length-append, length-take-le w reply (omega (arith, inv .room, inv .long)))) (rw os)
+          (sym (take-append-drop (w + out) back) ∙ rw (wrote .front, past-is)) f
 
-        module _ (k : ℕ) (q : Quiet (take (cur .count + 1) pushed) (length piece - (i + 1)) k) where
-          abbrev joined : List ℕ
-          joined = take k (drop (i + 1) piece)
+  module _ (inside : i < length line) where
+    first : getD d 0 0 ≡ getD line i 0
+    first = getD-drop i line 0 0 ∙ rw (add-zero i)
 
-          pub joined-in : i + 1 + k ≤ length piece
-          joined-in = omega (arith, q .few)
+    -- ---- a zero at the start of a unit
 
-          joined-long : length joined ≡ k
-          joined-long = length-take-le k (drop (i + 1) piece) (rw (length-drop (i + 1) piece) (omega (arith, q .few)))
+    module _ (z : getD line i 0 ≡ 0) where
+      one : 1 ≡ need d
+      one = sym (need-zero d (first ∙ z))
 
-          quiet-at : (z : List ℕ) → length z ≤ k → length (v ++ z) < need (v ++ z)
-          quiet-at = rw pushed-unit at (q .short)
+      there : 1 ≤ length d
+      there = omega (arith, left-long)
 
-          pub joined-fit : cur .count + 1 + k < 48
-          joined-fit = omega (arith, quiet-at joined (omega (arith, joined-long)), need-most (v ++ joined), length-append v joined, joined-long, count-on)
+      zero-done : act m (whole (take 1 d)) ≡ zeroed m
+      zero-done = act-zero m (take 1 d) (getD-take 1 d 0 0 (omega arith) ∙ first ∙ z)
 
-          all-short : (j : ℕ) → j < length (x ∷ joined) → length (inv .unit ++ take (suc j) (x ∷ joined)) < need (inv .unit ++ take (suc j) (x ∷ joined))
-          all-short j h = rw append-assoc at (quiet-at (take j joined) (rw (length-take j joined) (omega (arith, joined-long))))
+      pub zero-full : (r : Call) → length reply ≤ w → r ≡ holding said t (take (i - i) d) i w → Ran c reply₀ r reply
+      zero-full r h f =
+          let e : i - i ≡ 0 = omega arith in
+          full 1 one there r (rw zero-done (omega arith)) (f ∙ rw (e, add-zero i))
 
-          joined-same : c ≡ later protocol (i + 1 + k) (take w reply) (stateAt (inv .memory) (v ++ joined) t) t (length reply₀ - w) (drop (i + 1 + k) piece)
-          joined-same =
-              let m : i + length (x ∷ joined) ≡ i + 1 + k = omega (arith, joined-long) in
-              let l : drop (i + 1) piece ≡ joined ++ drop (i + 1 + k) piece =
-              sym (take-append-drop k (drop (i + 1) piece)) ∙ ap (λ (r : List ℕ). joined ++ r) (drop-drop k (i + 1) piece) in
-              one-more
-              ∙ ap (λ (r : List ℕ). later protocol i (take w reply) s t (length reply₀ - w) (x ∷ r)) l
-              ∙ later-joins protocol i (take w reply) (inv .memory) t (length reply₀ - w) (x ∷ joined) (drop (i + 1 + k) piece) (inv .unit) all-short
-              ∙ rw (m, append-assoc)
+      pub zero-goes : w < length reply → Inv c t line reply₀ (set reply w 0) said (i + 1) (w + 1)
+      zero-goes h =
+          rw zero-done at
+          (turned 1 one there (rw zero-done (omega arith)) said
+          (rw zero-done (λ k. record { order = inv .none k; settings = said .settings; notes = said .notes })) (inv .none))
 
-          pub joins : (filled : List ℕ) (j : ℕ) → j ≡ k → filled ≡ sets pushed (cur .count + 1) (take j (drop (i + 1) piece))
-              → Inv c t piece reply₀ reply (record { settings = cur .settings; notes = cur .notes; held = filled; count = cur .count + 1 + k; stamp = cur .stamp }) (i + 1 + k) w
-          joins filled j e f =
-              let h : filled ≡ padded (v ++ joined) = f ∙ rw (e, pushed-is, count-on) (padded-sets joined v (omega (arith, joined-long, count-on, joined-fit))) in
-              let l : cur .count + 1 + k ≡ length (v ++ joined) = omega (arith, length-append v joined, joined-long, count-on) in
-              record {
-                memory = inv .memory;
-                unit = v ++ joined;
-                is = λ a. record { settings = inv .is a .settings; notes = inv .is a .notes; held = h a; count = l a; stamp = inv .is a .stamp };
-                begun = quiet-at joined (omega (arith, joined-long));
-                same = joined-same;
-                at = joined-in;
-                room = inv .room;
-                long = inv .long;
-                rest = inv .rest;
-              }
+    -- ---- a name
 
-      -- the byte ends the unit, which says a, and that was written at w
-      module _ (fits : n ≤ length reply - w) (a : Said Order Memory) (e : step protocol s (byte t x) ≡ with-line (record { unfinished = []; last = t }) a)
-          (b : Board) (is : b ≡ boardOf (stateAt (a .next) [] t)) where
-        said-long : length (a .reply) ≡ n
-        said-long = ap (λ (y : Said Order (State Memory)). length (y .reply)) (sym e) ∙ step-due (inv .memory) (inv .unit) t x ∙ sym due-is
+    module _ (name n : ℕ) (kind : Kind) (it : Named line i name n kind) where
+      begins : getD d 0 0 ≡ 0 → ⊥
+      begins z = it .some (sym first ∙ z)
 
-        wrote : Written reply (sets reply w (a .reply)) (a .reply) w
-        wrote = written-at reply (a .reply) w (omega (arith, said-long, inv .room, inv .long))
+      name-is : nameOf d ≡ name
+      name-is =
+          let l : length (take i line) + 0 ≡ i = omega (arith, length-take-le i line (inv .at)) in
+          sym (leAt-append 4 0 (take i line) d) ∙ rw (take-append-drop i line, l) (sym (it .read))
 
-        front-is : take (w + n) (sets reply w (a .reply)) ≡ take w reply ++ a .reply
-        front-is = rw (← said-long) (wrote .front)
+      kind-is : kindOf (nameOf d) ≡ kind
+      kind-is = ap kindOf name-is ∙ sym (it .looked)
 
-        past-is : drop (w + n) (sets reply w (a .reply)) ≡ drop (w + n) reply₀
-        past-is =
-            let p : drop (w + n) (sets reply w (a .reply)) ≡ drop (w + n) reply = rw (← said-long) (wrote .past) in
-            p ∙ rw (← drop-drop n w reply, inv .rest, drop-drop)
+      need-is : 4 ≤ length d → need d ≡ n
+      need-is h = need-span d begins h ∙ ap span kind-is ∙ sym (it .spans)
 
-        reply-fits : length (step protocol s (byte t x) .reply) ≤ length reply₀ - w
-        reply-fits = omega (arith, step-due (inv .memory) (inv .unit) t x, due-is, inv .long)
+      pub unfinished : (r : Call) → length line - i < n → r ≡ holding said t (take (length line - i) d) (length line) w → Ran c reply₀ r reply
+      unfinished r h f =
+          let all : take (length line - i) d ≡ d = take-all (length line - i) d (omega (arith, left-long)) in
+          let k : i + length d ≡ length line = omega (arith, left-long, inv .at) in
+          stops (length line) d r (inv .same ∙ unit-open protocol need-law i (take w reply) m t (length reply₀ - w) d short ∙ rw k) (f ∙ rw all)
+        where
+          short : length d < need d
+          short = by (ltb (length d) 4) refl
+            where
+              by : (b : Bool) → ltb (length d) 4 ≡ b → length d < need d
+              by true e = let l = ltb-true (length d) 4 e in omega (arith, need-name d begins l)
+              by false e = omega (arith, need-is (ltb-false (length d) 4 e), left-long)
 
-        turned : a .orders ≡ [] → Inv c t piece reply₀ (sets reply w (a .reply)) b (i + 1) (w + n)
-        turned h =
-            let m : length reply₀ - w - n ≡ length reply₀ - (w + n) = omega arith in
-            record {
-              memory = a .next;
-              unit = [];
-              is = is;
-              begun = need-some [];
-              same =
-                  one-more
-                  ∙ later-turn protocol i (take w reply) s t (length reply₀ - w) x (drop (i + 1) piece) reply-fits (rw e h)
-                  ∙ rw (e, said-long, m, front-is);
-              at = omega arith;
-              room = omega (arith, inv .room, inv .long);
-              long = wrote .long ∙ inv .long;
-              rest = past-is;
-            }
+      module _ (fits : n ≤ length line - i) where
+        long-enough : n ≤ length d
+        long-enough = omega (arith, left-long)
 
-        stopped : (o : Order) (r : Call) → a .orders ≡ o ∷ [] → r ≡ record { number = 0; taken = i + 1; written = w + n; order = o; board = b }
-            → Ran c reply₀ r (sets reply w (a .reply))
-        stopped o r h f =
-            ran-over c (i + 1) (w + n) (take w reply ++ a .reply) reply₀ (sets reply w (a .reply)) (a .orders) (stateAt (a .next) [] t) o b r
-            (one-more
-            ∙ later-stop protocol i (take w reply) s t (length reply₀ - w) x (drop (i + 1) piece) reply-fits o [] (rw e h)
-            ∙ rw e)
-            (rw (length-append (take w reply) (a .reply), written, said-long)) (rw h) is
-            (sym (take-append-drop (w + n) (sets reply w (a .reply))) ∙ rw (front-is, past-is)) f
+        is : n ≡ need d
+        is = sym (need-is (omega (arith, least it, long-enough)))
 
-      unit-ends : 0 < n → step protocol s (byte t x) ≡ with-line (record { unfinished = []; last = t }) (act (inv .memory) (whole v))
-      unit-ends h = step-ends protocol (inv .memory) (inv .unit) t x (due-whole v (omega (arith, due-is)))
-
-      -- a zero at the start of a unit
-      pub zeros : n ≡ 1 → n ≤ length reply - w
-          → Inv c t piece reply₀ (set reply w 0) (record { settings = cur .settings; notes = cur .notes; held = pushed; count = cur .count; stamp = cur .stamp }) (i + 1) (w + 1)
-      zeros one fits =
-          let d : due v ≡ 1 = sym due-is ∙ one in
-          let z : getD v 0 0 ≡ 0 = due-first-zero v d in
-          let alone : inv .unit ≡ [] = due-alone (inv .unit) x (inv .begun) d in
-          let none : x ≡ 0 = sym (ap (λ (u : List ℕ). getD (u ++ getD piece i 0 ∷ []) 0 0) alone) ∙ z in
-          let h : pushed ≡ padded [] = pushed-is ∙ rw (alone, none) (sym (padded-set [] 0 (omega arith)) ∙ padded-zero [] (omega arith)) in
-          let l : cur .count ≡ 0 = count-is ∙ ap length alone in
-          rw one at
-          (turned fits (zeroed (inv .memory))
-          (unit-ends (omega arith) ∙ ap (with-line (record { unfinished = []; last = t })) (act-zero (inv .memory) v z))
-          (record { settings = cur .settings; notes = cur .notes; held = pushed; count = cur .count; stamp = cur .stamp })
-          (λ j. record { settings = inv .is j .settings; notes = inv .is j .notes; held = h j; count = l j; stamp = inv .is j .stamp }) refl)
-
-      -- a named unit ends, and its answer stands in the lent rest ys
-      module _ (pos : n ≡ 0 → ⊥) (far : n ≡ 1 → ⊥) (fits : n ≤ length reply - w) (d : Judged) (ys : List ℕ)
-          (j : Judges (answered (record { settings = cur .settings; notes = cur .notes }) (take (cur .count + 1) pushed)) (midOf w (length reply - w) reply) d ys)
-          (b : Board) (is : b ≡ record { settings = d .settings; notes = d .notes; held = padded []; count = 0; stamp = cur .stamp }) where
-        abbrev done : Said Order Memory
-        done = act (inv .memory) (whole v)
-
-        done-is : answered (record { settings = cur .settings; notes = cur .notes }) (take (cur .count + 1) pushed) ≡ done
+        done-is : act m (whole (take n d)) ≡ does m (take n d) kind
         done-is =
-            let m : _≡_ {A = Memory} (record { settings = cur .settings; notes = cur .notes }) (inv .memory) = λ a. record { settings = inv .is a .settings; notes = inv .is a .notes } in
-            ap (answered _) pushed-unit ∙ ap (λ (y : Memory). answered y v) m
-            ∙ sym (act-named (inv .memory) v (due-named v (omega (arith, due-is, pos)) (λ f. far (due-is ∙ f))))
+            act-named m (take n d) (λ z. begins (sym (getD-take n d 0 0 (omega (arith, least it))) ∙ z))
+            ∙ ap (does m (take n d)) (ap kindOf (leAt-take 4 0 n d (least it)) ∙ kind-is)
 
-        judged : Judges done (midOf w (length reply - w) reply) d ys
-        judged = rw done-is at j
+        module _ (due : ℕ) (told : due ≡ replied kind) where
+          due-is : length (act m (whole (take n d)) .reply) ≡ due
+          due-is = rw done-is (does-length m (take n d) kind) ∙ sym told
 
-        back-is : putMid w (length reply - w) reply ys ≡ sets reply w (done .reply)
-        back-is = lent-back reply ys (done .reply) w (judged .reply)
+          pub named-full : (r : Call) → length reply - w < due → r ≡ holding said t (take (i + n - 1 - i) d) (i + n - 1) w → Ran c reply₀ r reply
+          named-full r h f =
+              let k : i + n - 1 ≡ i + (n - 1) = omega (arith, least it) in
+              let l : i + n - 1 - i ≡ n - 1 = omega (arith, least it) in
+              full n is long-enough r (omega (arith, due-is)) (f ∙ rw (l, k))
 
-        orders-are : done .orders ≡ given (d .order)
-        orders-are = sym (act-order (inv .memory) v) ∙ ap given (sym (ap (λ (y : Judged). y .order) (judged .result)))
+          -- its answer stands in the lent rest ys
+          module _ (room : due ≤ length reply - w) (next : Judged) (ys : List ℕ) (j : Judges (does m (take (i + n - i) d) kind) (midOf w (length reply - w) reply) next ys) where
+            judged : Judges (act m (whole (take n d))) (midOf w (length reply - w) reply) next ys
+            judged = let k : i + n - i ≡ n = omega arith in rw done-is (rw k at j)
 
-        emptied-is : b ≡ boardOf (stateAt (done .next) [] t)
-        emptied-is =
-            is
-            ∙ (λ k. record { settings = judged .result k .settings; notes = judged .result k .notes; held = padded []; count = 0; stamp = inv .is k .stamp })
+            fits-room : length (act m (whole (take n d)) .reply) ≤ length reply - w
+            fits-room = omega (arith, due-is)
 
-        ended : step protocol s (byte t x) ≡ with-line (record { unfinished = []; last = t }) done
-        ended = unit-ends (omega (arith, pos))
+            back-is : putMid w (length reply - w) reply ys ≡ sets reply w (act m (whole (take n d)) .reply)
+            back-is = lent-back reply ys (act m (whole (take n d)) .reply) w (judged .reply)
 
-        pub back-long : length (putMid w (length reply - w) reply ys) ≡ length reply₀
-        back-long = rw back-is (wrote fits done ended b emptied-is .long ∙ inv .long)
+            pub named-long : length (putMid w (length reply - w) reply ys) ≡ length reply₀
+            named-long = rw back-is (back-long n is long-enough fits-room next (judged .result))
 
-        pub goes : orderNumber (d .order) ≡ 0 → Inv c t piece reply₀ (putMid w (length reply - w) reply ys) b (i + 1) (w + n)
-        goes h = rw back-is (turned fits done ended b emptied-is (orders-are ∙ none-given (d .order) h))
+            pub named-goes : orderNumber (next .order) ≡ 0 → Inv c t line reply₀ (putMid w (length reply - w) reply ys) next (i + n) (w + due)
+            named-goes h = rw (back-is, ← due-is) (turned n is long-enough fits-room next (judged .result) (none-given (next .order) h))
 
-        pub gives : (orderNumber (d .order) ≡ 0 → ⊥) → (r : Call) → r ≡ record { number = 0; taken = i + 1; written = w + n; order = d .order; board = b }
-            → Ran c reply₀ r (putMid w (length reply - w) reply ys)
-        gives h r f = rw back-is (stopped fits done ended b emptied-is (d .order) r (orders-are ∙ one-given (d .order) h) f)
+            pub named-gives : (orderNumber (next .order) ≡ 0 → ⊥) → (r : Call)
+                → r ≡ holding next t (take (i + n - (i + n)) (drop (i + n) line)) (i + n) (w + due) → Ran c reply₀ r (putMid w (length reply - w) reply ys)
+            named-gives h r f =
+                let k : i + n - (i + n) ≡ 0 = omega arith in
+                rw back-is (stopped n is long-enough fits-room next (judged .result) h r (f ∙ rw (k, ← due-is)))

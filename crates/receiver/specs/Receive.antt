@@ -2,14 +2,15 @@
 use mathlib.Core.Bool.{cond}
 use mathlib.Core.List.{List, _++_}
 use mathlib.Core.Path.{_≡_}
-use Prim.Native.Nat.{ℕ, _≤_, _<_}
+use Prim.Native.Nat.{ℕ}
 use lib.Dec.{eqb}
-use lib.ListN.{length, take, drop}
+use lib.ListN.{length, drop}
 use Rattle.rule.specs.Calls.{Called}
-use Rattle.unit.specs.Names.{need}
-use Rattle.unit.specs.Unit.{Memory, orderOf}
+use Rattle.rule.specs.Loop.{stateAt}
+use Rattle.unit.specs.Unit.{Memory, memory, orderOf}
+use Rattle.unit.specs.declared.Judged.{Judged}
 use Rattle.unit.specs.declared.names.Order.{Order}
-use Rattle.receiver.specs.State.{padded, boardOf}
+use Rattle.receiver.specs.State.{boardOf}
 use Rattle.receiver.specs.declared.Board.{Board}
 use Rattle.receiver.specs.declared.Call.{Call}
 
@@ -33,11 +34,20 @@ pub record Received (c : Called Order Memory) (board : Board) (before : List ℕ
 
 -- ---- inside a call
 
--- zeros behind the unfinished bytes, which are a true beginning
-pub record Tidy (b : Board) : Type 0 where
-  pub zeros : b .held ≡ padded (take (b .count) (b .held))
-  pub count : b .count < 48
-  pub begun : b .count < need (take (b .count) (b .held))
+-- the memory that a unit left
+abbrev pub kept : Judged → Memory
+kept said = memory (said .settings) (said .notes)
+
+-- the answer that keeps what a unit said, with the bytes u held at the stamp t
+abbrev pub holding : Judged → ℕ → List ℕ → ℕ → ℕ → Call
+holding said t u taken written =
+    record {
+      number = 0;
+      taken = taken;
+      written = written;
+      order = said .order;
+      board = boardOf (stateAt (kept said) u t);
+    }
 
 -- the loop's answer
 abbrev pub ran : Called Order Memory → Call
@@ -47,8 +57,3 @@ ran c =
 pub record Ran (c : Called Order Memory) (before : List ℕ) (r : Call) (after : List ℕ) : Type 0 where
   pub result : r ≡ ran c
   pub reply : after ≡ c .said .reply ++ drop (length (c .said .reply)) before
-
--- r bytes behind u, of the next `left`, end no unit, whatever they are
-pub record Quiet (u : List ℕ) (left r : ℕ) : Type 0 where
-  pub few : r ≤ left
-  pub short : (w : List ℕ) → length w ≤ r → length (u ++ w) < need (u ++ w)

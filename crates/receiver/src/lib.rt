@@ -2,19 +2,22 @@
 use settings::Settings;
 use unit::Judged;
 use unit::Notes;
+use unit::names;
 use unit::names::Order;
+ghost use mathlib.Core.Bool.{cond};
 ghost use mathlib.Core.List.{[]};
 ghost use mathlib.Core.Path.{_≡_};
-ghost use Prim.Native.Nat.{_+_, _≤_, _<_};
-ghost use lib.ListN.{length, take};
+ghost use Prim.Native.Nat.{_+_, _-_, _≤_, _<_};
+ghost use lib.ListN.{length, take, drop};
 ghost use lib.Seq.{sets};
 ghost use Rattle.rule.specs.Run.{late};
 ghost use Rattle.rule.specs.Calls.{none, accept, call};
-ghost use Rattle.rule.specs.Loop.{ready};
-ghost use Rattle.unit.specs.Names.{need, due};
+ghost use Rattle.rule.specs.Loop.{stateAt, ready};
+ghost use Rattle.unit.specs.Names.{need};
+ghost use Rattle.unit.specs.declared.names.Order.the-variants.{Nothing};
 ghost use Rattle.unit.specs.Protocol.{protocol, begun, soundState, freshState};
-ghost use Rattle.receiver.specs.State.{padded, stateOf, boardOf};
-ghost use Rattle.receiver.specs.Receive.{answer, Received, Tidy, Ran, Quiet};
+ghost use Rattle.receiver.specs.State.{stateOf, boardOf};
+ghost use Rattle.receiver.specs.Receive.{answer, Received, kept, holding, Ran};
 
 // What the board keeps between calls. The bytes of the unfinished unit stand in front of held, and count tells how many.
 #[repr(C)]
@@ -34,66 +37,6 @@ pub struct Call {
     pub board: Board,
 }
 
-// How many reply bytes the last of the n bytes in held causes.
-fn due_for(held: &[u8; 48], n: usize) -> usize
-    requires { ⌜ (0 < n) × (n ≤ 48) × (length (now held) ≡ 48) ⌝ }
-    ensures { λ r. ⌜ r ≡ due (take n (now (held .entry))) ⌝ }
-{
-    if held[0] == 0 {
-        return 1;
-    }
-    if n < 4 {
-        return 0;
-    }
-    let name = wire::u32_at(held, 0);
-    if n < unit::names::span_of(name) {
-        return 0;
-    }
-    unit::names::replied_of(name)
-}
-
-// How many bytes of what follows surely end no unit, behind the n bytes of an unfinished one in held.
-fn quiet(held: &[u8; 48], n: usize, left: usize) -> usize
-    requires { ⌜ (0 < n) × (n < need (take n (now held))) × (length (now held) ≡ 48) ⌝ }
-    ensures { λ r. ⌜ Quiet (take n (now (held .entry))) left r ⌝ }
-{
-    if n < 4 {
-        return least(3 - n, left);
-    }
-    let name = wire::u32_at(held, 0);
-    least(unit::names::span_of(name) - 1 - n, left)
-}
-
-fn least(a: usize, b: usize) -> usize
-    ensures { λ r. ⌜ (r ≤ a) × (r ≤ b) ⌝ }
-{
-    if a < b { a } else { b }
-}
-
-// A part, laid in held from the place at on.
-fn fill(held: &mut [u8; 48], at: usize, part: &[u8])
-    requires { ⌜ at + length (now part) ≤ 48 ⌝ }
-    ensures { λ _. ⌜ now (held .exit) ≡ sets (now (held .entry)) at (now (part .entry)) ⌝ }
-{
-    let mut k = 0;
-    while k < part.len() {
-        held[at + k] = part[k];
-        k += 1;
-    }
-}
-
-// Zeros behind the first n bytes.
-fn clear(held: &mut [u8; 48], n: usize)
-    requires { ⌜ (n ≤ 48) × (length (now held) ≡ 48) ⌝ }
-    ensures { λ _. ⌜ now (held .exit) ≡ padded (take n (now (held .entry))) ⌝ }
-{
-    let mut k = n;
-    while k < 48 {
-        held[k] = 0;
-        k += 1;
-    }
-}
-
 // "The wait is the later stamp minus the earlier one", more than 400.
 fn is_late(later: u32, earlier: u32) -> bool
     ensures { λ r. ⌜ r ≡ late later earlier ⌝ }
@@ -101,103 +44,118 @@ fn is_late(later: u32, earlier: u32) -> bool
     400 < std::num::wrapping_sub_u32(later, earlier)
 }
 
-// The board as the first byte of a piece finds it: the wait is met once, since the bytes of a call share a stamp.
-fn readied(board: Board, stamp: u32) -> Board
-    requires { ⌜ board .count ≤ 48 ⌝ }
-    ensures { λ r. ⌜ r ≡ boardOf (ready protocol (stateOf board) stamp) ⌝ }
+// A part, laid into a buffer from the place at on.
+fn fill(out: &mut [u8], at: usize, part: &[u8])
+    requires { ⌜ at + length (now part) ≤ length (now out) ⌝ }
+    ensures { λ _. ⌜ now (out .exit) ≡ sets (now (out .entry)) at (now (part .entry)) ⌝ }
 {
-    let mut next = board;
-    next.stamp = stamp;
-    if is_late(stamp, board.stamp) {
-        next.held = [0u8; 48];
-        next.count = 0;
-        return next;
-    }
-    let n = board.count;
-    clear(&mut next.held, n);
-    next
-}
-
-// A board with nothing unfinished.
-fn idle(settings: Settings, notes: Notes, stamp: u32) -> Board
-    ensures { λ r. ⌜ r ≡ record { settings = settings; notes = notes; held = padded []; count = 0; stamp = stamp } ⌝ }
-{
-    Board {
-        settings,
-        notes,
-        held: [0u8; 48],
-        count: 0,
-        stamp,
+    let mut k = 0;
+    while k < part.len() {
+        out[at + k] = part[k];
+        k += 1;
     }
 }
 
-// The board once a unit has ended.
-fn emptied(said: Judged, stamp: u32) -> Board
-    ensures { λ r. ⌜ r ≡ record { settings = said .settings; notes = said .notes; held = padded []; count = 0; stamp = stamp } ⌝ }
+// The answer once a line has been taken up to the place to: what stands there from the place from on is held.
+fn over(said: Judged, stamp: u32, line: &[u8], from: usize, to: usize, written: usize) -> Call
+    requires { ⌜ (from ≤ to) × (to ≤ length (now line)) × (to - from ≤ 48) ⌝ }
+    ensures { λ r. ⌜ r ≡ holding said stamp (take (to - from) (drop from (now (line .entry)))) to written ⌝ }
 {
+    let mut held = [0u8; 48];
+    fill(&mut held, 0, &line[from..to]);
     let settings = said.settings;
     let notes = said.notes;
-    idle(settings, notes, stamp)
-}
-
-fn over(taken: usize, written: usize, order: Order, board: Board) -> Call
-    ensures { λ r. ⌜ r ≡ record { number = 0; taken = taken; written = written; order = order; board = board } ⌝ }
-{
+    let order = said.order;
+    let board = Board {
+        settings,
+        notes,
+        held,
+        count: to - from,
+        stamp,
+    };
     Call {
         number: 0,
-        taken,
+        taken: to,
         written,
         order,
         board,
     }
 }
 
-// Bytes from the front of the piece, all at the board's stamp, until it ends, an order is given, or a reply does not fit. One board is
-// changed in place; a byte that ends no unit costs a store, and those that surely end none are copied together.
-fn run(board: Board, piece: &[u8], reply: &mut [u8]) -> Call
-    requires { ⌜ Tidy board ⌝ }
-    ensures { λ r. ⌜ Ran (accept protocol (stateOf board) (board .stamp) (length (now (reply .entry))) (now (piece .entry))) (now (reply .entry)) r (now (reply .exit)) ⌝ }
+// Unit after unit from the front of a line, where it stands, until no whole unit is left, an order is given, or a reply does not fit. What
+// is left is held, but for the byte whose reply does not fit and what is behind it.
+fn take_units(start: Judged, line: &[u8], stamp: u32, reply: &mut [u8]) -> Call
+    requires { ⌜ start .order ≡ Nothing ⌝ }
+    ensures { λ r. ⌜ Ran (accept protocol (stateAt (kept start) [] stamp) stamp (length (now (reply .entry))) (now (line .entry))) (now (reply .entry)) r (now (reply .exit)) ⌝ }
 {
-    let mut cur = board;
+    let mut cur = start;
     let mut i = 0;
     let mut w = 0;
-    while i < piece.len() {
-        let at = cur.count;
-        let m = at + 1;
-        cur.held[at] = piece[i];
-        let n = due_for(&cur.held, m);
-        if n == 0 {
-            i += 1;
-            let k = quiet(&cur.held, m, piece.len() - i);
-            let e = i + k;
-            fill(&mut cur.held, m, &piece[i..e]);
-            cur.count = m + k;
-            i = e;
-        } else {
-            if reply.len() - w < n {
-                cur.held[at] = 0;
-                return over(i, w, Order::Nothing, cur);
+    while i < line.len() {
+        if line[i] == 0 {
+            if reply.len() <= w {
+                return over(cur, stamp, line, i, i, w);
             }
+            reply[w] = 0;
+            w += 1;
             i += 1;
-            if n == 1 {
-                reply[w] = 0;
-                w += 1;
-            } else {
-                let frame = cur.held;
-                let said = unit::answer(cur.settings, cur.notes, &frame[..m], &mut reply[w..]);
-                w += n;
-                cur = emptied(said, cur.stamp);
-                let order = said.order;
-                if unit::names::order_number(order) != 0 {
-                    return over(i, w, order, cur);
-                }
+        } else {
+            let kind = names::kind_of(wire::u32_at(line, i));
+            let n = names::span_of(kind);
+            if line.len() - i < n {
+                return over(cur, stamp, line, i, line.len(), w);
+            }
+            let due = names::replied_of(kind);
+            if reply.len() - w < due {
+                return over(cur, stamp, line, i, i + n - 1, w);
+            }
+            let e = i + n;
+            cur = unit::answer(cur.settings, cur.notes, kind, &line[i..e], &mut reply[w..]);
+            i = e;
+            w += due;
+            let order = cur.order;
+            if names::order_number(order) != 0 {
+                return over(cur, stamp, line, i, i, w);
             }
         }
     }
-    over(i, w, Order::Nothing, cur)
+    over(cur, stamp, line, i, i, w)
 }
 
-// Whether n bytes in held are none, or a true beginning of one unit: the last of them causes no reply.
+// How many of the bytes held the next byte joins: none where the wait drops them.
+fn joined(count: usize, later: u32, earlier: u32) -> usize
+    ensures { λ r. ⌜ r ≡ cond (late later earlier) 0 count ⌝ }
+{
+    if is_late(later, earlier) {
+        return 0;
+    }
+    count
+}
+
+// The bytes held and the piece behind them are one line, whose first unit the bytes held begin.
+fn run(board: Board, piece: &[u8], stamp: u32, reply: &mut [u8]) -> Call
+    requires { ⌜ (length (board .held) ≡ 48) × (board .count < need (take (board .count) (board .held))) × (length (now piece) ≤ 250) ⌝ }
+    ensures { λ r. ⌜ Ran (accept protocol (ready protocol (stateOf board) stamp) stamp (length (now (reply .entry))) (now (piece .entry))) (now (reply .entry)) r (now (reply .exit)) ⌝ }
+{
+    let held = board.held;
+    let had = joined(board.count, stamp, board.stamp);
+    let mut line = [0u8; 298];
+    fill(&mut line, 0, &held[..had]);
+    fill(&mut line, had, piece);
+    let end = had + piece.len();
+    let settings = board.settings;
+    let notes = board.notes;
+    let start = Judged {
+        order: Order::Nothing,
+        settings,
+        notes,
+    };
+    let mut call = take_units(start, &line[..end], stamp, reply);
+    call.taken = call.taken - had;
+    call
+}
+
+// Whether n bytes in held are none, or a true beginning of one unit.
 fn is_begun(held: &[u8; 48], n: usize) -> bool
     requires { ⌜ length (now held) ≡ 48 ⌝ }
     ensures { λ r. ⌜ r ≡ begun (take n (now (held .entry))) ⌝ }
@@ -208,7 +166,14 @@ fn is_begun(held: &[u8; 48], n: usize) -> bool
     if 48 < n {
         return false;
     }
-    due_for(held, n) == 0
+    if held[0] == 0 {
+        return false;
+    }
+    if n < 4 {
+        return true;
+    }
+    let kind = names::kind_of(wire::u32_at(held, 0));
+    n < names::span_of(kind)
 }
 
 // 01's list of what a sound state is.
@@ -247,7 +212,13 @@ pub fn fresh() -> Board
         block: 0,
         field: 0,
     };
-    idle(Settings::fresh(), notes, 0)
+    Board {
+        settings: Settings::fresh(),
+        notes,
+        held: [0u8; 48],
+        count: 0,
+        stamp: 0,
+    }
 }
 
 // One call: a piece of bytes that share a stamp, and room for the replies.
@@ -264,7 +235,7 @@ pub fn receive(board: Board, piece: &[u8], stamp: u32, reply: &mut [u8]) -> Call
         if piece.len() == 0 {
             return refuse(0, board);
         }
-        return run(readied(board, stamp), piece, reply);
+        return run(board, piece, stamp, reply);
     }
     refuse(3, board)
 }

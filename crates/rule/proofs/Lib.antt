@@ -7,6 +7,7 @@ pub mod Steps
 pub mod Accept
 pub mod Calls
 pub mod Loop
+pub mod Units
 pub mod Progress
 pub mod First
 pub mod Bytes

@@ -12,6 +12,7 @@ use Rattle.wire.specs.Tests.{within, signedWithin, finite, firstFalse}
 use Rattle.sheet.specs.Sheet.{Row, movRow, engRow, pwrRow, edsRow, homRow, brkRow, pidRow}
 use Rattle.sheet.specs.Rows.{rowAt, rowIn, widths, numbersIn, dataOf, firstBad, canonical, least}
 use Rattle.sheet.proofs.Laws.{sent-again, numbers-fit}
+use Rattle.sheet.proofs.Table.{each-step}
 use Rattle.settings.specs.declared.Settings.{Settings}
 use Rattle.settings.specs.Settings.{numbersAt, storeAt, dataAt, putAt, badAt, allGood, freshSettings, Good}
 use Rattle.mov.specs.Mov.{movOf, movNumbers}
@@ -117,10 +118,6 @@ good-put s k d b z g j = go (eqb j k) refl
 
 pub bad-put : (s : Settings) (k : ℕ) (d : List ℕ) → ((i : ℕ) → getD d i 0 < 256) → badAt (putAt s k d) k ≡ firstBad (rowAt k) (numbersIn (rowAt k) d)
 bad-put s k d b = store-judged s k (numbersIn (rowAt k) d) (numbers-fit (rowAt k) d b)
-
-each-step : (P : Row → List ℕ → Type 0) (b : Bool) (r q : Row) (x u : List ℕ) → P r x → P q u → P (cond b r q) (cond b x u)
-each-step P true r q x u e f = e
-each-step P false r q x u e f = f
 
 -- what holds of each block holds of block k
 module _ (P : Row → List ℕ → Type 0) (s : Settings) (k : ℕ) where

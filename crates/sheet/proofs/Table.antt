@@ -43,19 +43,20 @@ fresh-good = refl
 
 -- ---- what holds of each row holds of the row of a number
 
-one-row : (P : Row → Type 0) (b : Bool) (r q : Row) → P r → P q → P (cond b r q)
-one-row P true r q e f = e
-one-row P false r q e f = f
+-- of a row and a value, one step of the choice
+pub each-step : {X : Type 0} (P : Row → X → Type 0) (b : Bool) (r q : Row) (x u : X) → P r x → P q u → P (cond b r q) (cond b x u)
+each-step P true r q x u e f = e
+each-step P false r q x u e f = f
 
 pub each-row : (P : Row → Type 0) (k : ℕ) → P movRow → P engRow → P pwrRow → P edsRow → P homRow → P brkRow → P pidRow → P (rowIn [] k) → P (rowAt k)
 each-row P k mov eng pwr eds hom brk pid none =
-    one-row P (eqb k 1) movRow _ mov
-    (one-row P (eqb k 2) engRow _ eng
-    (one-row P (eqb k 3) pwrRow _ pwr
-    (one-row P (eqb k 4) edsRow _ eds
-    (one-row P (eqb k 5) homRow _ hom
-    (one-row P (eqb k 6) brkRow _ brk
-    (one-row P (eqb k 7) pidRow _ pid
+    each-step (λ r (_ : ℕ). P r) (eqb k 1) movRow _ 0 0 mov
+    (each-step (λ r (_ : ℕ). P r) (eqb k 2) engRow _ 0 0 eng
+    (each-step (λ r (_ : ℕ). P r) (eqb k 3) pwrRow _ 0 0 pwr
+    (each-step (λ r (_ : ℕ). P r) (eqb k 4) edsRow _ 0 0 eds
+    (each-step (λ r (_ : ℕ). P r) (eqb k 5) homRow _ 0 0 hom
+    (each-step (λ r (_ : ℕ). P r) (eqb k 6) brkRow _ 0 0 brk
+    (each-step (λ r (_ : ℕ). P r) (eqb k 7) pidRow _ 0 0 pid
     none))))))
 
 -- the longest frame

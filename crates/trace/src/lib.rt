@@ -152,7 +152,7 @@ pub fn write_bad(out: &mut [u8], place: usize) -> usize
     write_number(out, a, place as u64, b'\n')
 }
 
-pub fn write_end(out: &mut [u8], flags: u8, unfinished: usize) -> usize
+pub fn write_end(out: &mut [u8], flags: usize, unfinished: usize) -> usize
     ensures { λ r. ⌜ Written (now (out .entry)) 0 (endOf flags unfinished) r (now (out .exit)) ⌝ }
 {
     let a = write_text(out, 0, b"flags ");

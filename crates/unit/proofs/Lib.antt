@@ -1,9 +1,7 @@
-pub mod Picks
 pub mod Sets
 pub mod Gets
 pub mod Need
 pub mod Replies
-pub mod Due
 pub mod Sound
 pub mod Named
 pub mod Kept

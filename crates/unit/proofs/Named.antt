@@ -1,6 +1,5 @@
 -- The name of a set is its block's set name, and of a get its get name. Assumes nothing.
 use mathlib.Core.Path.{_≡_, refl, sym, ap, _∙_}
-use mathlib.Core.Bool.{cond}
 use mathlib.Core.List.{List, [], _∷_}
 use Prim.Native.Nat.{ℕ, _<_}
 use native.Mathlib.Omega.{arith}
@@ -10,7 +9,7 @@ use Rattle.sheet.specs.Names.{named}
 use Rattle.sheet.specs.Sheet.{Row, sheet}
 use Rattle.sheet.specs.Rows.{rowAt}
 use Rattle.rule.proofs.Choice.{either, eitherBy}
-use Rattle.unit.specs.Names.{setBlock, getBlock, orderKind, kindOf}
+use Rattle.unit.specs.Names.{blockIn, setBlock, getBlock, orderKind, kindOf}
 use Rattle.unit.specs.declared.names.Order.{Order}
 use Rattle.unit.specs.declared.names.Order.the-variants.{Stop, Sstp, Pwof, Left, Rigt, Home, Loft}
 use Rattle.unit.specs.declared.names.Kind.{Kind}
@@ -24,15 +23,11 @@ data Own : List Row → Type 0 where
 sheet-own : Own sheet
 sheet-own = own refl (own refl (own refl (own refl (own refl (own refl (own refl none))))))
 
--- the block that has this name, for either kind of name
-abbrev found : (Row → ℕ) → List Row → ℕ → ℕ
-found name [] n = 0
-found name (r ∷ rs) n = cond (eqb n (name r)) (r .number) (found name rs n)
-
-found-named : (name : Row → ℕ) (n : ℕ) (rs : List Row) → Own rs → 0 < found name rs n → n ≡ name (rowAt (found name rs n))
+-- the name of the block that has it, for either kind of name
+found-named : (name : Row → ℕ) (n : ℕ) (rs : List Row) → Own rs → 0 < blockIn name rs n → n ≡ name (rowAt (blockIn name rs n))
 found-named name n [] none h = absurd (omega arith)
 found-named name n (r ∷ rs) (own e o) h =
-    eitherBy (λ (k : ℕ). 0 < k → n ≡ name (rowAt k)) (eqb n (name r)) (r .number) (found name rs n)
+    eitherBy (λ (k : ℕ). 0 < k → n ≡ name (rowAt k)) (eqb n (name r)) (r .number) (blockIn name rs n)
     (λ p _. eqb-true n (name r) p ∙ ap name (sym e)) (λ _ l. found-named name n rs o l) h
 
 -- what holds of each order, and of the unknown, holds of a name that is no set and no get

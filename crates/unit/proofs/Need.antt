@@ -28,7 +28,7 @@ span-least (Get k) = omega arith
 span-least (Gives o) = omega arith
 span-least Unknown = omega arith
 
-span-most : (k : Kind) → span k ≤ 48
+pub span-most : (k : Kind) → span k ≤ 48
 span-most (Set k) = total-most k
 span-most (Get k) = omega arith
 span-most (Gives o) = omega arith

@@ -27,5 +27,5 @@ order-number-one κs a r r' s s' p q = p ∙ sym q
 pub answer-one : Leaves answer.Post (λ κs r s. r)
 answer-one κs a r r' s s' p q = p .result ∙ sym (q .result)
 
-pub answer-bytes-one : Leaves answer.Post (λ κs r s. s .1 .1 .1 .0 .now)
+pub answer-bytes-one : Leaves answer.Post (λ κs r s. s .1 .1 .1 .1 .0 .now)
 answer-bytes-one κs a r r' s s' p q = p .reply ∙ sym (q .reply)

@@ -1,12 +1,11 @@
 -- What a unit says: the answers case by case, how long a reply is, and which orders are given. Assumes nothing.
 use mathlib.Core.Path.{_≡_, refl, subst}
-use mathlib.Core.Bool.{Bool, true, false, cond}
 use mathlib.Core.List.{List, [], _∷_, _++_}
 use Prim.Native.Nat.{ℕ, _+_, _≤_}
 use native.Mathlib.Omega.{arith}
-use lib.Dec.{eqb, leb, ltb}
+use lib.Dec.{eqb, ltb}
 use lib.ListN.{length, getD, length-append}
-use borrow.Author.Tests.{eq-eqb, ne-eqb, eqb-true, leb-true, leb-false}
+use borrow.Author.Tests.{eq-eqb, ne-eqb, eqb-true}
 use Rattle.wire.specs.Numbers.{leBytes}
 use Rattle.wire.proofs.Numbers.{length-leBytes}
 use Rattle.sheet.specs.Names.{named}
@@ -21,9 +20,8 @@ use Rattle.rule.specs.Rule.{Said, State}
 use Rattle.rule.specs.Step.{step}
 use Rattle.rule.specs.Facts.{Silent}
 use Rattle.rule.proofs.Choice.{eitherBy, either}
-use Rattle.rule.proofs.Loop.{step-ends, step-joins}
 use Rattle.rule.proofs.Progress.{step-says}
-use Rattle.unit.specs.Names.{kindOf, orderKind, setBlock, getBlock, nameOf, replied, need, due}
+use Rattle.unit.specs.Names.{kindOf, orderKind, setBlock, getBlock, nameOf, replied}
 use Rattle.unit.specs.Unit.{Memory, dataIn, intact, puts, checked, damaged, outOfRange, stored, gets, does, answered, zeroed, act, orderOf}
 use Rattle.unit.specs.Protocol.{protocol}
 use Rattle.unit.specs.declared.names.Order.{Order}
@@ -77,19 +75,10 @@ replied-most (Get k) = total-most k
 replied-most (Gives o) = omega arith
 replied-most Unknown = omega arith
 
-module _ (m : Memory) (u : List ℕ) where
-  pub act-length : length (act m (whole u) .reply) ≡ cond (eqb (getD u 0 0) 0) 1 (replied (kindOf (nameOf u)))
-  unfolding act
-  act-length = by (eqb (getD u 0 0) 0)
-    where
-      by : (z : Bool) → length (cond z (zeroed m) (answered m u) .reply) ≡ cond z 1 (replied (kindOf (nameOf u)))
-      by true = refl
-      by false = does-length m u (kindOf (nameOf u))
-
-  pub act-most : length (act m (whole u) .reply) ≤ 48
-  act-most =
-      let k = kindOf (nameOf u) in
-      act-cases m u (λ (a : Said Order Memory). length (a .reply) ≤ 48) (omega arith) (rw (does-length m u k) (replied-most k))
+pub act-most : (m : Memory) (u : List ℕ) → length (act m (whole u) .reply) ≤ 48
+act-most m u =
+    let k = kindOf (nameOf u) in
+    act-cases m u (λ (a : Said Order Memory). length (a .reply) ≤ 48) (omega arith) (rw (does-length m u k) (replied-most k))
 
 -- ---- which orders are given
 
@@ -148,23 +137,6 @@ act-order m u = act-cases m u Told refl (does-order m u (kindOf (nameOf u)) (kin
 pub silent : Silent protocol
 unfolding act
 silent = record { reply = λ m u. refl; orders = λ m u. refl }
-
--- a byte x at the stamp of the byte before it
-module _ (m : Memory) (u : List ℕ) (t x : ℕ) where
-  abbrev here : State Memory
-  here = record { memory = m; line = record { unfinished = u; last = t } }
-
-  abbrev on : List ℕ
-  on = u ++ x ∷ []
-
-  -- DUE IS THE REPLY'S LENGTH, whatever the memory
-  pub step-due : length (step protocol here (byte t x) .reply) ≡ due on
-  unfolding due
-  step-due = by (leb (need on) (length on)) refl
-    where
-      by : (y : Bool) → leb (need on) (length on) ≡ y → length (step protocol here (byte t x) .reply) ≡ due on
-      by true e = rw (step-ends protocol m u t x (leb-true (need on) (length on) e), e) (act-length m on)
-      by false e = rw (step-joins protocol m u t x (leb-false (need on) (length on) e), e)
 
 -- a reply of one byte's doing fits the least room
 pub reply-most : (s : State Memory) (t x : ℕ) → length (step protocol s (byte t x) .reply) ≤ 48

@@ -1,8 +1,8 @@
 -- The names of 01 and how long a unit is.
-use mathlib.Core.Bool.{Bool, cond}
+use mathlib.Core.Bool.{cond}
 use mathlib.Core.List.{List, [], _∷_}
 use Prim.Native.Nat.{ℕ}
-use lib.Dec.{eqb, leb, ltb}
+use lib.Dec.{eqb, ltb}
 use lib.ListN.{getD, length}
 use Rattle.wire.specs.Numbers.{leAt}
 use Rattle.sheet.specs.Names.{named}
@@ -24,21 +24,16 @@ orderNumber Rigt = 5
 orderNumber Home = 6
 orderNumber Loft = 7
 
--- the block that has this set name, or 0
-abbrev setIn : List Row → ℕ → ℕ
-setIn [] n = 0
-setIn (r ∷ rs) n = cond (eqb n (r .setName)) (r .number) (setIn rs n)
+-- the block of the rows that has this name, set or get, or 0
+abbrev pub blockIn : (Row → ℕ) → List Row → ℕ → ℕ
+blockIn name [] n = 0
+blockIn name (r ∷ rs) n = cond (eqb n (name r)) (r .number) (blockIn name rs n)
 
 unfoldable pub setBlock : ℕ → ℕ
-setBlock n = setIn sheet n
-
--- the block that has this get name, or 0
-abbrev getIn : List Row → ℕ → ℕ
-getIn [] n = 0
-getIn (r ∷ rs) n = cond (eqb n (r .getName)) (r .number) (getIn rs n)
+setBlock n = blockIn (λ r. r .setName) sheet n
 
 unfoldable pub getBlock : ℕ → ℕ
-getBlock n = getIn sheet n
+getBlock n = blockIn (λ r. r .getName) sheet n
 
 -- an order, or a name that nobody knows
 unfoldable pub orderKind : ℕ → Kind
@@ -78,7 +73,3 @@ replied Unknown = 4
 -- identifier", and the identifier tells the rest. Of nothing it tells that a byte is to come.
 unfoldable pub need : List ℕ → ℕ
 need u = cond (eqb (getD u 0 0) 0) 1 (cond (ltb (length u) 4) 4 (span (kindOf (nameOf u))))
-
--- the number of reply bytes that the last byte of u causes: none inside a unit, one for a zero, and the answer's length at any other end
-unfoldable pub due : List ℕ → ℕ
-due u = cond (leb (need u) (length u)) (cond (eqb (getD u 0 0) 0) 1 (replied (kindOf (nameOf u)))) 0

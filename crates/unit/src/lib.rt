@@ -6,12 +6,12 @@ use names::Order;
 use settings::Settings;
 ghost use mathlib.Core.Path.{_≡_};
 ghost use Rattle.unit.specs.declared.names.Order.the-variants.{Nothing};
-ghost use Rattle.unit.specs.Unit.{memory, flag, intact, puts, gets, answered, Judges};
+ghost use Rattle.unit.specs.Unit.{memory, flag, intact, puts, gets, does, Judges};
 
-// What a unit can change besides the settings: the flags, the last refused block and field.
+// What a unit can change besides the settings: the flags, the last refused block and field. All are words, so that a copy has no gap to move.
 #[repr(C)]
 pub struct Notes {
-    pub flags: u8,
+    pub flags: usize,
     pub block: usize,
     pub field: usize,
 }
@@ -28,7 +28,7 @@ const ERRD: u64 = 0x64727265;
 
 const ERRV: u64 = 0x76727265;
 
-fn flagged(notes: Notes, bit: u8) -> Notes
+fn flagged(notes: Notes, bit: usize) -> Notes
     ensures { λ r. ⌜ r ≡ flag bit notes ⌝ }
 {
     let mut next = notes;
@@ -95,12 +95,11 @@ fn answer_set(settings: Settings, notes: Notes, k: usize, unit: &[u8], reply: &m
     no_order(next, notes)
 }
 
-// The answer to a whole unit that begins with a name.
-pub fn answer(settings: Settings, notes: Notes, unit: &[u8], reply: &mut [u8]) -> Judged
-    ensures { λ r. ⌜ Judges (answered (memory settings notes) (now (unit .entry))) (now (reply .entry)) r (now (reply .exit)) ⌝ }
+// The answer to a whole unit, of the kind that its name says: the caller has looked it up.
+pub fn answer(settings: Settings, notes: Notes, kind: Kind, unit: &[u8], reply: &mut [u8]) -> Judged
+    ensures { λ r. ⌜ Judges (does (memory settings notes) (now (unit .entry)) kind) (now (reply .entry)) r (now (reply .exit)) ⌝ }
 {
     let name = wire::u32_at(unit, 0);
-    let kind = names::kind_of(name);
     match kind {
         Kind::Set(k) => {
             return answer_set(settings, notes, k, unit, reply);

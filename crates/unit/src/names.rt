@@ -166,11 +166,10 @@ pub fn total_of(number: usize) -> usize
     6
 }
 
-// The length of a unit with this name: a set has its block's, any other name is its unit.
-pub fn span_of(name: u32) -> usize
-    ensures { λ r. ⌜ r ≡ span (kindOf name) ⌝ }
+// The length of a unit of this kind: a set has its block's, any other is its name.
+pub fn span_of(kind: Kind) -> usize
+    ensures { λ r. ⌜ r ≡ span kind ⌝ }
 {
-    let kind = kind_of(name);
     match kind {
         Kind::Set(k) => {
             return total_of(k);
@@ -187,11 +186,10 @@ pub fn span_of(name: u32) -> usize
     }
 }
 
-// The length of the answer to a unit with this name: a get is answered by a frame, any other by four letters.
-pub fn replied_of(name: u32) -> usize
-    ensures { λ r. ⌜ r ≡ replied (kindOf name) ⌝ }
+// The length of the answer to a unit of this kind: a get is answered by a frame, any other by four letters.
+pub fn replied_of(kind: Kind) -> usize
+    ensures { λ r. ⌜ r ≡ replied kind ⌝ }
 {
-    let kind = kind_of(name);
     match kind {
         Kind::Set(_) => {
             return 4;

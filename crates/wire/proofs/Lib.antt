@@ -3,4 +3,5 @@ pub mod Stores
 pub mod Laid
 pub mod Values
 pub mod Tests
+pub mod Picks
 pub mod One

@@ -13,7 +13,7 @@ use std::process::ExitCode;
 #[derive(Clone, Debug)]
 enum Change {
     Data(usize, Vec<u8>),
-    Flags(u8),
+    Flags(usize),
     Held(Vec<u8>, usize),
     /// This byte in all places of held behind the unfinished bytes.
     Spare(u8),
@@ -277,7 +277,7 @@ fn change(random: &mut Random) -> Change {
             let block = random.pick(&[1, 2, 3, 4, 5, 7]);
             Change::Data(block, frames::data(random, block, 1))
         }
-        6 => Change::Flags(random.pick(&[7, 8, 9, 128, 255])),
+        6 => Change::Flags(random.pick(&[7, 8, 9, 128, 255, 256, usize::MAX])),
         7 => Change::Held(vec![0], 1),
         8 => Change::Held(vec![0, random.word() as u8, b's'], 2 + random.below(2)),
         9 => Change::Held(frames::unknown(random), 4),
@@ -302,7 +302,7 @@ fn sound(random: &mut Random) -> (Parts, Vec<u8>) {
         let data = frames::data(random, block, 0);
         same::put_data(&mut parts.settings, block, &data);
     }
-    parts.notes.flags = random.below(8) as u8;
+    parts.notes.flags = random.below(8);
     parts.notes.block = random.pick(&[0, 1, 7, 8, 256, usize::MAX]);
     parts.notes.field = random.pick(&[0, 1, 8, 9, 256, usize::MAX]);
     parts.stamp = random.word() as u32;

@@ -4,17 +4,17 @@ use mathlib.Core.Bool.{Bool, true, false, cond}
 use Prim.Native.Nat.{ℕ}
 use lib.Dec.{eqb}
 use borrow.Author.Needs.{needs}
-use borrow.Author.Tests.{eq-eqb, ne-eqb}
+use Rattle.wire.proofs.Picks.{picked, passed}
 use Rattle.settings.specs.Settings.{allGood}
 use Rattle.settings.proofs.Settings.all_good.Statement.{statement}
 use Rattle.settings.proofs.Settings.all_good.Tie as tie
 
 -- a block out of its ranges, a block in them, and the last
 bad-here : {r n : ℕ} (b : Bool) → r ≡ n → (r ≡ 0 → ⊥) → false ≡ cond (eqb n 0) b false
-bad-here {n = n} b e h = rw (ne-eqb n 0 (λ z. h (e ∙ z)))
+bad-here {n = n} b e h = passed n 0 false b false (λ z. h (e ∙ z)) refl
 
 good-here : {r n : ℕ} {x b : Bool} → r ≡ n → r ≡ 0 → x ≡ b → x ≡ cond (eqb n 0) b false
-good-here {n = n} e h g = rw (eq-eqb n 0 (sym e ∙ h)) g
+good-here {n = n} {x = x} {b = b} e h g = picked n 0 x b false (sym e ∙ h) g
 
 last-here : {r n : ℕ} → r ≡ n → eqb r 0 ≡ cond (eqb n 0) true false
 last-here {r = r} {n = n} e = ap (λ (k : ℕ). eqb k 0) e ∙ go (eqb n 0)

@@ -5,8 +5,8 @@ use Prim.Native.Nat.{ℕ}
 use lib.Dec.{eqb}
 use borrow.Author.Tests.{eq-eqb, ne-eqb}
 
-pub picked : {X : Type 0} (n c : ℕ) (v rest : X) → n ≡ c → v ≡ cond (eqb n c) v rest
-picked n c v rest e = rw (eq-eqb n c e)
+pub picked : {X : Type 0} (n c : ℕ) (x v rest : X) → n ≡ c → x ≡ v → x ≡ cond (eqb n c) v rest
+picked n c x v rest is e = rw (eq-eqb n c is) e
 
 pub passed : {X : Type 0} (n c : ℕ) (x v rest : X) → (n ≡ c → ⊥) → x ≡ rest → x ≡ cond (eqb n c) v rest
 passed n c x v rest ne e = rw (ne-eqb n c ne) e
