@@ -5,7 +5,7 @@ use Prim.Native.Nat.{ℕ, suc, _+_, _-_, _≤_, _<_}
 use native.Mathlib.Nat.{add-zero}
 use native.Mathlib.Numerals.{add-one}
 use native.Mathlib.Omega.{arith}
-use lib.ListN.{length, set, take, drop, replicate, length-append, length-take, length-replicate}
+use lib.ListN.{length, set, take, drop, replicate, length-append, length-take}
 use lib.Seq.{sets, sets-eq, length-sets, set-at, length-take-le, take-at, drop-at, take-append-seam}
 use borrow.Rule.Slice.PartMut.{midOf, putMid}
 use Rattle.wire.proofs.Stores.{sets-rest}
@@ -13,15 +13,11 @@ use Rattle.receiver.specs.State.{padded}
 
 -- ---- zeros behind the bytes held
 
-pub padded-length : (u : List ℕ) → length u ≤ 48 → length (padded u) ≡ 48
-unfolding padded
-padded-length u h = rw (length-append u (replicate (48 - length u) 0), length-replicate {A = ℕ} (48 - length u) 0) (omega arith)
-
 pub padded-take : (u : List ℕ) → take (length u) (padded u) ≡ u
 unfolding padded
 padded-take u = take-append-seam u (replicate (48 - length u) 0)
 
-pub padded-set : (u : List ℕ) (x : ℕ) → length u < 48 → set (padded u) (length u) x ≡ padded (u ++ x ∷ [])
+padded-set : (u : List ℕ) (x : ℕ) → length u < 48 → set (padded u) (length u) x ≡ padded (u ++ x ∷ [])
 unfolding padded
 padded-set u x h =
     let k = 48 - length u - 1 in

@@ -3,7 +3,6 @@ use Prim.Native.Nat.{ℕ, _+_}
 use mathlib.Core.Path.{_≡_, refl, ap, sym, _∙_}
 use mathlib.Core.Bool.{Bool}
 use mathlib.Core.List.{List, [], _∷_, _++_, append-assoc, append-nil}
-use lib.ListN.{length, length-append}
 use Rattle.rule.specs.Run.{Item, byte, event, bytes, late}
 use Rattle.rule.specs.Framing.{Needs, Token, whole, lost, seen, unitsOf}
 use Rattle.rule.specs.Rule.{Line}
@@ -52,6 +51,3 @@ module _ {E : Type 0} (cuts : ℕ → E → Bool) (need : List ℕ → ℕ) wher
     -- NO BYTE IS LOST
     pub units-bytes : let c = unitsOf cuts need r in bytes r ≡ spent (c .tokens) ++ c .unfinished
     units-bytes = sym (feeds-held r (record { unfinished = []; last = 0 })) ∙ ap held (feeds-is-units cuts need law r 0)
-
-    pub units-count : let c = unitsOf cuts need r in length (bytes r) ≡ length (spent (c .tokens)) + length (c .unfinished)
-    units-count = let c = unitsOf cuts need r in ap length units-bytes ∙ length-append (spent (c .tokens)) (c .unfinished)

@@ -1,4 +1,4 @@
--- What a loop over the piece's bytes needs of `accept`: the wait is met once, before the first byte, and `later` goes on turn by turn.
+-- How `accept` goes on byte by byte: the wait is met once, before the first byte, and `later` says what is taken and what is to come.
 use Prim.Native.Nat.{ℕ, suc, _+_, _-_, _<_, _≤_}
 use mathlib.Core.Path.{_≡_, refl, ap, sym, _∙_}
 use mathlib.Core.Bool.{Bool, true, false}
@@ -13,7 +13,7 @@ use Rattle.rule.specs.Framing.{whole}
 use Rattle.rule.specs.Rule.{quiet, State, with-line, Protocol, deal}
 use Rattle.rule.specs.Step.{settle, feed, feedOn, step}
 use Rattle.rule.specs.Calls.{Called, accept}
-use Rattle.rule.specs.Loop.{ready, later, over}
+use Rattle.rule.specs.Loop.{stateAt, ready, later, over}
 use Rattle.rule.specs.Facts.{says, Silent}
 use Rattle.rule.proofs.Said.{then-quiet}
 use Rattle.rule.proofs.Framing.{settle-whole, settle-part}
@@ -27,7 +27,7 @@ module _ {E O M : Type 0} (p : Protocol E O M) where
   -- a byte x at the stamp of the byte before it: no wait is met
   module _ (m : M) (u : List ℕ) (t x : ℕ) where
     abbrev here : State M
-    here = record { memory = m; line = record { unfinished = u; last = t } }
+    here = stateAt m u t
 
     abbrev on : List ℕ
     on = u ++ x ∷ []
@@ -37,12 +37,12 @@ module _ {E O M : Type 0} (p : Protocol E O M) where
     step-settle = by u
       where
         by : (w : List ℕ) → let f = settle (p .cuts) (p .need) (w ++ x ∷ []) t in
-            step p (record { memory = m; line = record { unfinished = w; last = t } }) (byte t x) ≡ with-line (f .line) (deal p m (f .tokens))
+            step p (stateAt m w t) (byte t x) ≡ with-line (f .line) (deal p m (f .tokens))
         by [] = refl
         by (a ∷ w) = rw (late-self t)
 
     -- the unit goes on
-    pub step-joins : length on < p .need on → step p here (byte t x) ≡ quiet (record { memory = m; line = record { unfinished = on; last = t } })
+    pub step-joins : length on < p .need on → step p here (byte t x) ≡ quiet (stateAt m on t)
     unfolding deal
     step-joins h = step-settle ∙ rw (settle-part (p .cuts) (p .need) on t h)
 
@@ -58,7 +58,7 @@ module _ {E O M : Type 0} (p : Protocol E O M) where
   step-ready quiets s t x = by (s .line .unfinished) (late t (s .line .last)) refl
     where
       held : List ℕ → State M
-      held u = record { memory = s .memory; line = record { unfinished = u; last = s .line .last } }
+      held u = stateAt (s .memory) u (s .line .last)
 
       by : (u : List ℕ) (y : Bool) → late t (s .line .last) ≡ y → step p (held u) (byte t x) ≡ step p (ready p (held u) t) (byte t x)
       by [] true e = rw e
@@ -117,11 +117,10 @@ module _ {E O M : Type 0} (p : Protocol E O M) where
   -- bytes that end no unit, all at once
   pub later-joins : (k : ℕ) (out : List ℕ) (m : M) (t room : ℕ) (w piece u : List ℕ)
       → ((n : ℕ) → n < length w → length (u ++ take (suc n) w) < p .need (u ++ take (suc n) w))
-      → later p k out (record { memory = m; line = record { unfinished = u; last = t } }) t room (w ++ piece)
-      ≡ later p (k + length w) out (record { memory = m; line = record { unfinished = u ++ w; last = t } }) t room piece
+      → later p k out (stateAt m u t) t room (w ++ piece) ≡ later p (k + length w) out (stateAt m (u ++ w) t) t room piece
   later-joins k out m t room [] piece u h = rw (add-zero k, append-nil u)
   later-joins k out m t room (x ∷ w) piece u h =
-      let s : State M = record { memory = m; line = record { unfinished = u; last = t } } in
+      let s : State M = stateAt m u t in
       let e = step-joins m u t x (h 0 (omega arith)) in
       let l : length (step p s (byte t x) .reply) ≤ room = rw e (omega arith) in
       let one = later-turn k out s t room x (w ++ piece) l (rw e) in

@@ -6,7 +6,7 @@ use Prim.Native.Nat.{ℕ, _≤_, _<_}
 use lib.Dec.{T, eqb}
 use lib.Ieee.{toBits, ofBits}
 use lib.ListN.{length, getD}
-use borrow.Author.Tests.{eqb-true, eqb-false, ne-eqb}
+use borrow.Author.Tests.{eqb-true, ne-eqb}
 use Rattle.wire.specs.Layout.{sum, Room}
 use Rattle.wire.specs.Tests.{within, signedWithin, finite, firstFalse}
 use Rattle.sheet.specs.Sheet.{Row, movRow, engRow, pwrRow, edsRow, homRow, brkRow, pidRow}
@@ -106,15 +106,6 @@ pub get-other : (s : Settings) (j k : ℕ) (d : List ℕ) → (j ≡ k → ⊥) 
 get-other s j k d ne = ap (dataOf (rowAt j)) (store-other s j k (numbersIn (rowAt k) d) ne)
 
 -- ---- every field in its range
-
-pub good-put : (s : Settings) (k : ℕ) (d : List ℕ) → ((i : ℕ) → getD d i 0 < 256) → firstBad (rowAt k) (numbersIn (rowAt k) d) ≡ 0 → Good s → Good (putAt s k d)
-good-put s k d b z g j = go (eqb j k) refl
-  where
-    go : (t : Bool) → eqb j k ≡ t → badAt (putAt s k d) j ≡ 0
-    go true p =
-        let e = eqb-true j k p in
-        subst (λ (n : ℕ). badAt (putAt s k d) n ≡ 0) (sym e) (ap (firstBad (rowAt k)) (store-same s k (numbersIn (rowAt k) d) (numbers-fit (rowAt k) d b) z) ∙ z)
-    go false p = ap (firstBad (rowAt j)) (store-other s j k (numbersIn (rowAt k) d) (eqb-false j k p)) ∙ g j
 
 pub bad-put : (s : Settings) (k : ℕ) (d : List ℕ) → ((i : ℕ) → getD d i 0 < 256) → badAt (putAt s k d) k ≡ firstBad (rowAt k) (numbersIn (rowAt k) d)
 bad-put s k d b = store-judged s k (numbersIn (rowAt k) d) (numbers-fit (rowAt k) d b)

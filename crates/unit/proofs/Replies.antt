@@ -1,5 +1,5 @@
 -- What a unit says: the answers case by case, how long a reply is, and which orders are given. Assumes nothing.
-use mathlib.Core.Path.{_≡_, refl, subst}
+use mathlib.Core.Path.{_≡_, refl}
 use mathlib.Core.List.{List, [], _∷_, _++_}
 use Prim.Native.Nat.{ℕ, _+_, _≤_}
 use native.Mathlib.Omega.{arith}
@@ -113,9 +113,6 @@ kind-given n =
     (either Given (eqb n (named "home")) _ _ refl
     (either Given (eqb n (named "loft")) _ _ refl
     tt))))))))
-
-pub kind-order : (n : ℕ) (o : Order) → kindOf n ≡ Gives o → given o ≡ o ∷ []
-kind-order n o e = subst Given e (kind-given n)
 
 -- what is given is one order at most, and the order of an answer tells it
 abbrev Told : Said Order Memory → Type 0
