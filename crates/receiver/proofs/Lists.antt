@@ -6,7 +6,7 @@ use native.Mathlib.Nat.{add-zero}
 use native.Mathlib.Numerals.{add-one}
 use native.Mathlib.Omega.{arith}
 use lib.ListN.{length, set, take, drop, replicate, length-append, length-take}
-use lib.Seq.{sets, sets-eq, length-sets, set-at, length-take-le, take-at, drop-at, take-append-seam}
+use lib.Seq.{sets, sets-eq, length-sets, set-at, length-take-le, take-at, drop-at, take-append-seam, take-append-le}
 use borrow.Rule.Slice.PartMut.{midOf, putMid}
 use Rattle.wire.proofs.Stores.{sets-rest}
 use Rattle.receiver.specs.State.{padded}
@@ -38,18 +38,18 @@ pub padded-part : (line filled : List ℕ) (from to : ℕ) → to - from ≤ 48 
 padded-part line filled from to h e =
     e ∙ padded-sets (take (to - from) (drop from line)) [] (omega (arith, length-take (to - from) (drop from line)))
 
--- the bytes held and the piece behind them, laid into a buffer that has room for both, are one line
-module _ (zeros u piece one two : List ℕ) (had : ℕ) (first : one ≡ sets zeros 0 u) (second : two ≡ sets one had piece) where
+-- the bytes held, and the piece laid over them from `had` on, in a buffer that has room for both: one line
+module _ (zeros held piece one two : List ℕ) (had : ℕ) (first : one ≡ sets zeros 0 held) (second : two ≡ sets one had piece) where
   pub line-long : length two ≡ length zeros
-  line-long = rw (second, first) (length-sets (sets zeros 0 u) had piece ∙ length-sets zeros 0 u)
+  line-long = rw (second, first) (length-sets (sets zeros 0 held) had piece ∙ length-sets zeros 0 held)
 
-  pub line-is : length u ≡ had → had + length piece ≤ length zeros → take (had + length piece) two ≡ u ++ piece
-  line-is e h =
-      let one-is = sets-eq u zeros 0 (omega arith) in
-      let two-is = sets-eq piece (sets zeros 0 u) had (rw (length-sets zeros 0 u) h) in
-      let front : take had (sets zeros 0 u) ≡ u = rw one-is (take-at u (drop (0 + length u) zeros) had e) in
+  pub line-is : had ≤ length held → length held ≤ length zeros → had + length piece ≤ length zeros → take (had + length piece) two ≡ take had held ++ piece
+  line-is h k l =
+      let one-is = sets-eq held zeros 0 (omega arith) in
+      let two-is = sets-eq piece (sets zeros 0 held) had (rw (length-sets zeros 0 held) l) in
+      let front : take had (sets zeros 0 held) ≡ take had held = rw one-is (take-append-le had held (drop (0 + length held) zeros) h) in
       rw (second, first, two-is, front)
-      (take-at (u ++ piece) (drop (had + length piece) (sets zeros 0 u)) (had + length piece) (length-append u piece ∙ rw e))
+      (take-at (take had held ++ piece) (drop (had + length piece) (sets zeros 0 held)) (had + length piece) (length-append (take had held) piece ∙ rw (length-take-le had held h)))
 
 -- ---- a reply `out`, written from w on
 

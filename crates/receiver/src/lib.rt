@@ -7,9 +7,8 @@ use unit::names::Order;
 ghost use mathlib.Core.Bool.{cond};
 ghost use mathlib.Core.List.{[]};
 ghost use mathlib.Core.Path.{_≡_};
-ghost use Prim.Native.Nat.{_+_, _-_, _≤_, _<_};
+ghost use Prim.Native.Nat.{_-_, _≤_, _<_};
 ghost use lib.ListN.{length, take, drop};
-ghost use lib.Seq.{sets};
 ghost use Rattle.rule.specs.Run.{late};
 ghost use Rattle.rule.specs.Calls.{none, accept, call};
 ghost use Rattle.rule.specs.Loop.{stateAt, ready};
@@ -44,25 +43,13 @@ fn is_late(later: u32, earlier: u32) -> bool
     400 < std::num::wrapping_sub_u32(later, earlier)
 }
 
-// A part, laid into a buffer from the place at on.
-fn fill(out: &mut [u8], at: usize, part: &[u8])
-    requires { ⌜ at + length (now part) ≤ length (now out) ⌝ }
-    ensures { λ _. ⌜ now (out .exit) ≡ sets (now (out .entry)) at (now (part .entry)) ⌝ }
-{
-    let mut k = 0;
-    while k < part.len() {
-        out[at + k] = part[k];
-        k += 1;
-    }
-}
-
 // The answer once a line has been taken up to the place to: what stands there from the place from on is held.
 fn over(said: Judged, stamp: u32, line: &[u8], from: usize, to: usize, written: usize) -> Call
     requires { ⌜ (from ≤ to) × (to ≤ length (now line)) × (to - from ≤ 48) ⌝ }
     ensures { λ r. ⌜ r ≡ holding said stamp (take (to - from) (drop from (now (line .entry)))) to written ⌝ }
 {
     let mut held = [0u8; 48];
-    fill(&mut held, 0, &line[from..to]);
+    wire::copy(&mut held, 0, &line[from..to]);
     let settings = said.settings;
     let notes = said.notes;
     let order = said.order;
@@ -132,7 +119,8 @@ fn joined(count: usize, later: u32, earlier: u32) -> usize
     count
 }
 
-// The bytes held and the piece behind them are one line, whose first unit the bytes held begin.
+// The bytes held and the piece behind them are one line, whose first unit the bytes held begin. All of held is copied, spare bytes too, and
+// the piece is laid over those.
 fn run(board: Board, piece: &[u8], stamp: u32, reply: &mut [u8]) -> Call
     requires { ⌜ (length (board .held) ≡ 48) × (board .count < need (take (board .count) (board .held))) × (length (now piece) ≤ 250) ⌝ }
     ensures { λ r. ⌜ Ran (accept protocol (ready protocol (stateOf board) stamp) stamp (length (now (reply .entry))) (now (piece .entry))) (now (reply .entry)) r (now (reply .exit)) ⌝ }
@@ -140,8 +128,8 @@ fn run(board: Board, piece: &[u8], stamp: u32, reply: &mut [u8]) -> Call
     let held = board.held;
     let had = joined(board.count, stamp, board.stamp);
     let mut line = [0u8; 298];
-    fill(&mut line, 0, &held[..had]);
-    fill(&mut line, had, piece);
+    wire::copy(&mut line, 0, &held);
+    wire::copy(&mut line, had, piece);
     let end = had + piece.len();
     let settings = board.settings;
     let notes = board.notes;

@@ -1,12 +1,15 @@
 -- A run of stores at a place: what it changes, what it leaves, and the same through the lent rest of a buffer. Assumes nothing.
 use mathlib.Core.Path.{_≡_, refl, ap, _∙_, subst}
+use mathlib.Core.Bool.{Bool, true, false}
 use mathlib.Core.List.{List, [], _∷_, _++_, append-nil, append-assoc}
-use Prim.Native.Nat.{ℕ, zero, suc, _+_, _-_, _/_, _%_, _^_, _≤_, _<_}
+use Prim.Native.Nat.{ℕ, zero, suc, _+_, _-_, _/_, _%_, _^_, _≤_, _<_, min}
 use native.Mathlib.Nat.{add-zero, add-suc, suc-add, lt-irrefl, le-of-eq}
 use native.Mathlib.Numerals.{add-one, sub-one}
 use native.Mathlib.Omega.{arith}
 use lib.ListN.{length, getD, take, drop, set, length-drop, drop-of-length-le, take-append-drop}
 use lib.Seq.{sets, sets-eq, set-out, getD-set-other, take-set-le, drop-set-add, drop-cons, take-all, drop-drop, length-take-le}
+use lib.Dec.{leb}
+use borrow.Author.Tests.{leb-true, leb-false}
 use borrow.Rule.Slice.PartMut.{midOf, putMid}
 use Rattle.wire.specs.Numbers.{leAt, leBytes}
 use Rattle.wire.proofs.Numbers.{length-leBytes, leAt-append, leAt-leBytes, leAt-same, leBytes-leAt}
@@ -27,11 +30,16 @@ put-step s p zero x h = absurd (lt-irrefl 0 h)
 put-step s p (suc n) x h = rw (sub-one, add-one)
 
 -- the first byte of a part, and then the others
-pub copy-step : (s part : List ℕ) (p k : ℕ) → k < length part → sets s p (drop k part) ≡ sets (set s p (getD part k 0)) (p + 1) (drop (k + 1) part)
-copy-step s part p k h = rw (drop-cons part k 0 h, add-one p, add-one k)
+pub copy-step : (s part : List ℕ) (at k : ℕ) → k < length part → sets s (at + k) (drop k part) ≡ sets (set s (at + k) (getD part k 0)) (at + (k + 1)) (drop (k + 1) part)
+copy-step s part at k h = rw (drop-cons part k 0 h, add-one k, add-suc at k)
 
-pub copy-end : (s part : List ℕ) (p k : ℕ) → length part ≤ k → sets s p (drop k part) ≡ s
-copy-end s part p k h = rw (drop-of-length-le part h)
+-- as many as fit are copied: no byte of the part is left, or no place
+pub copy-end : (s part : List ℕ) (at k : ℕ) → at ≤ length s → min (length part) (length s - at) ≤ k → sets s (at + k) (drop k part) ≡ s
+copy-end s part at k l h = by (leb (length part) k) refl
+  where
+    by : (b : Bool) → leb (length part) k ≡ b → sets s (at + k) (drop k part) ≡ s
+    by true e = rw (drop-of-length-le part {i = k} (leb-true (length part) k e))
+    by false e = let f = leb-false (length part) k e in sets-past (drop k part) s (at + k) (omega arith)
 
 -- ---- other places are untouched
 

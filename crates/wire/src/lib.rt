@@ -1,7 +1,7 @@
 // Numbers on the wire, low byte first: read and written at any place of a slice, laid one behind the other, tested. Every function answers
 // every input: a byte past the end reads as 0, and a store past the end is none.
 ghost use mathlib.Core.Path.{_≡_};
-ghost use Prim.Native.Nat.{_+_, _<_};
+ghost use Prim.Native.Nat.{_+_, _*_, min};
 ghost use lib.ListN.{getD};
 ghost use lib.Seq.{sets};
 ghost use lib.Ieee.{binary32, ofBits, toBits};
@@ -13,9 +13,9 @@ ghost use Rattle.wire.specs.Tests.{within, signedWithin, finite, firstFa
 
 // ---- reading
 
-// The byte k places behind a place, wide.
-fn byte_at(s: &[u8], at: usize, k: usize) -> u32
-    ensures { λ r. ⌜ (r ≡ getD (now (s .entry)) (at + k) 0) × (r < 256) ⌝ }
+// The byte k places behind a place.
+fn byte_at(s: &[u8], at: usize, k: usize) -> u8
+    ensures { λ r. ⌜ r ≡ getD (now (s .entry)) (at + k) 0 ⌝ }
 {
     if s.len() <= at {
         return 0;
@@ -23,26 +23,43 @@ fn byte_at(s: &[u8], at: usize, k: usize) -> u32
     if s.len() - at <= k {
         return 0;
     }
-    s[at + k] as u32
+    s[at + k]
 }
 
 pub fn u8_at(s: &[u8], at: usize) -> u8
     ensures { λ r. ⌜ r ≡ leAt 1 at (now (s .entry)) ⌝ }
 {
-    byte_at(s, at, 0) as u8
+    byte_at(s, at, 0)
 }
 
 pub fn u16_at(s: &[u8], at: usize) -> u16
     ensures { λ r. ⌜ r ≡ leAt 2 at (now (s .entry)) ⌝ }
 {
-    (byte_at(s, at, 0) + 256 * byte_at(s, at, 1)) as u16
+    byte_at(s, at, 0) as u16 + 256 * byte_at(s, at, 1) as u16
 }
 
+// The number of four bytes, the low one first.
+fn four(a: u8, b: u8, c: u8, d: u8) -> u32
+    ensures { λ r. ⌜ r ≡ a + 256 * (b + 256 * (c + 256 * d)) ⌝ }
+{
+    a as u32 + 256 * (b as u32 + 256 * (c as u32 + 256 * d as u32))
+}
+
+// Where all four bytes are there, they are read together.
 pub fn u32_at(s: &[u8], at: usize) -> u32
     ensures { λ r. ⌜ r ≡ leAt 4 at (now (s .entry)) ⌝ }
 {
-    byte_at(s, at, 0)
-        + 256 * (byte_at(s, at, 1) + 256 * (byte_at(s, at, 2) + 256 * byte_at(s, at, 3)))
+    if at < s.len() {
+        if 4 <= s.len() - at {
+            return four(s[at], s[at + 1], s[at + 2], s[at + 3]);
+        }
+    }
+    four(
+        byte_at(s, at, 0),
+        byte_at(s, at, 1),
+        byte_at(s, at, 2),
+        byte_at(s, at, 3),
+    )
 }
 
 pub fn i16_at(s: &[u8], at: usize) -> i16
@@ -204,18 +221,23 @@ pub fn lay(out: &mut [u8], ws: &[usize], vs: &[u64])
     }
 }
 
-// The bytes of a part from a place on.
+fn least(a: usize, b: usize) -> usize
+    ensures { λ r. ⌜ r ≡ min a b ⌝ }
+{
+    if a < b { a } else { b }
+}
+
+// The bytes of a part from a place on. How many fit is told first, so that they are copied together.
 pub fn copy(out: &mut [u8], at: usize, part: &[u8])
     ensures { λ _. ⌜ now (out .exit) ≡ sets (now (out .entry)) at (now (part .entry)) ⌝ }
 {
-    let mut p = at;
+    if out.len() <= at {
+        return;
+    }
+    let n = least(part.len(), out.len() - at);
     let mut k = 0;
-    while k < part.len() {
-        if out.len() <= p {
-            return;
-        }
-        out[p] = part[k];
-        p += 1;
+    while k < n {
+        out[at + k] = part[k];
         k += 1;
     }
 }

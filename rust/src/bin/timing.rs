@@ -1,4 +1,5 @@
-//! Both receivers over ten million bytes, the same pieces, rounds by turns: median times and their ratio for two reply rooms.
+//! Both receivers over ten million bytes, the same pieces, rounds by turns: median times for two reply rooms, and the median of the rounds' ratios,
+//! which a machine that is busy now and then disturbs least.
 //!
 //!     timing [ROUNDS]
 
@@ -89,9 +90,9 @@ fn timed<T>(said: &mut Said, round: impl FnOnce(&mut Said) -> T) -> (Duration, T
     (start.elapsed(), end)
 }
 
-fn median(mut times: Vec<Duration>) -> f64 {
-    times.sort();
-    times[times.len() / 2].as_secs_f64() * 1000.0
+fn median(mut values: Vec<f64>) -> f64 {
+    values.sort_by(f64::total_cmp);
+    values[values.len() / 2]
 }
 
 fn hash(bytes: &[u8]) -> u64 {
@@ -99,7 +100,7 @@ fn hash(bytes: &[u8]) -> u64 {
 }
 
 fn main() -> ExitCode {
-    let rounds = std::env::args().nth(1).and_then(|n| n.parse().ok()).unwrap_or(9);
+    let rounds = std::env::args().nth(1).and_then(|n| n.parse().ok()).unwrap_or(25);
     let trace = trace();
     let (mut a, mut b) = (Said::new(), Said::new());
     for room in [48, 250] {
@@ -121,14 +122,14 @@ fn main() -> ExitCode {
                 println!("room {room}: the end states differ: {text}");
                 return ExitCode::FAILURE;
             }
-            ours.push(x.0);
-            theirs.push(y.0);
+            ours.push(x.0.as_secs_f64() * 1000.0);
+            theirs.push(y.0.as_secs_f64() * 1000.0);
         }
+        let ratio = median(ours.iter().zip(&theirs).map(|(x, y)| x / y).collect());
         let (ours, theirs) = (median(ours), median(theirs));
         println!(
-            "room {room}: library {ours:.1} ms, second {theirs:.1} ms, ratio {:.2} ({BYTES} bytes, {} calls, {} orders, {} reply bytes, \
+            "room {room}: library {ours:.1} ms, second {theirs:.1} ms, ratio {ratio:.2} ({BYTES} bytes, {} calls, {} orders, {} reply bytes, \
              hash {:016x})",
-            ours / theirs,
             a.calls,
             a.orders[1..].iter().sum::<usize>(),
             a.replies.len(),

@@ -2,7 +2,7 @@
 use Prim.Native.Nat.{_-_}
 use mathlib.Core.Path.{_≡_, sym}
 use native.Mathlib.Omega.{arith}
-use lib.ListN.{length, take, drop, length-take, length-drop}
+use lib.ListN.{length, take, drop, length-drop}
 use lib.Seq.{length-take-le}
 use borrow.Author.Needs.{needs}
 use Rattle.receiver.specs.State.{padded}
@@ -16,7 +16,7 @@ returns c =
     let s = c .before .before .before .before .before .before .before in
     let a = s .args in
     let u = take (a .to - a .from) (drop (a .from) (a .line .now)) in
-    let held = padded-part (a .line .now) _ (a .from) (a .to) (s .pre .2) (c .before .before .before .fill .ensures) in
+    let held = padded-part (a .line .now) _ (a .from) (a .to) (s .pre .2) (c .before .before .before .copy .ensures) in
     let long : a .to - a .from ≡ length u = sym (length-take-le (a .to - a .from) (drop (a .from) (a .line .now)) (omega (arith, length-drop (a .from) (a .line .now), s .pre .0, s .pre .1))) in
     λ k.
     record {
@@ -35,6 +35,6 @@ over-spec =
     (λ c. search needs)
     (λ c. search needs)
     (λ c. search needs)
-    (λ c κs. simp (length-take, length-drop) (omega arith))
+    (λ c κs. search needs)
     (λ c. search needs)
     returns)

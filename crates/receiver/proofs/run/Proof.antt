@@ -11,25 +11,22 @@ use Rattle.receiver.proofs.Line as line
 use Rattle.receiver.proofs.run.Statement.{statement}
 use Rattle.receiver.proofs.run.Tie as tie
 
--- the bytes held that go into the line
-module _ (k : tie.After-joined) where
-  had-short : k .joined .result < 48
-  had-short = line.had-short (k .before .before .before .before .args .board) (k .before .before .before .before .args .stamp) _ (k .before .before .before .before .pre .1) (k .joined .ensures)
-
-  had-long : length (take (k .joined .result) (k .before .before .before .before .args .board .held)) ≡ k .joined .result
-  had-long = line.had-long (k .before .before .before .before .args .board) (k .before .before .before .before .args .stamp) _ (k .before .before .before .before .pre .1) (k .joined .ensures) (k .before .before .before .before .pre .0)
-
 -- the line, laid out
 module _ (k : tie.After-line4) where
+  had-short : k .before .before .before .before .before .before .before .joined .result < 48
+  had-short = line.had-short (k .before .before .before .before .before .before .before .before .before .before .before .args .board) (k .before .before .before .before .before .before .before .before .before .before .before .args .stamp) _ (k .before .before .before .before .before .before .before .before .before .before .before .pre .1) (k .before .before .before .before .before .before .before .joined .ensures)
+
   room : k .before .before .before .before .before .before .before .joined .result + length (k .before .before .before .before .before .before .before .before .before .before .before .args .piece .now) ≤ 298
-  room = omega (arith, had-short (k .before .before .before .before .before .before .before), k .before .before .before .before .before .before .before .before .before .before .before .pre .2)
+  room = omega (arith, had-short, k .before .before .before .before .before .before .before .before .before .before .before .pre .2)
 
-  long : length (k .before .fill2 .last .0) ≡ 298
-  long = line-long (replicate 298 0) (take (k .before .before .before .before .before .before .before .joined .result) (k .before .before .before .before .before .before .before .before .before .before .before .args .board .held)) (k .before .before .before .before .before .before .before .before .before .before .before .args .piece .now) (k .before .before .before .before .fill .last .0) (k .before .fill2 .last .0) (k .before .before .before .before .before .before .before .joined .result) (k .before .before .before .before .fill .ensures) (k .before .fill2 .ensures)
+  long : length (k .before .copy2 .last .0) ≡ 298
+  long = line-long (replicate 298 0) (k .before .before .before .before .before .before .before .before .before .before .before .args .board .held) (k .before .before .before .before .before .before .before .before .before .before .before .args .piece .now) (k .before .before .before .before .copy .last .0) (k .before .copy2 .last .0) (k .before .before .before .before .before .before .before .joined .result) (k .before .before .before .before .copy .ensures) (k .before .copy2 .ensures)
 
-  laid-out : take (k .before .before .before .before .before .before .before .joined .result + length (k .before .before .before .before .before .before .before .before .before .before .before .args .piece .now)) (k .before .fill2 .last .0)
+  laid-out : take (k .before .before .before .before .before .before .before .joined .result + length (k .before .before .before .before .before .before .before .before .before .before .before .args .piece .now)) (k .before .copy2 .last .0)
       ≡ take (k .before .before .before .before .before .before .before .joined .result) (k .before .before .before .before .before .before .before .before .before .before .before .args .board .held) ++ k .before .before .before .before .before .before .before .before .before .before .before .args .piece .now
-  laid-out = line-is (replicate 298 0) (take (k .before .before .before .before .before .before .before .joined .result) (k .before .before .before .before .before .before .before .before .before .before .before .args .board .held)) (k .before .before .before .before .before .before .before .before .before .before .before .args .piece .now) (k .before .before .before .before .fill .last .0) (k .before .fill2 .last .0) (k .before .before .before .before .before .before .before .joined .result) (k .before .before .before .before .fill .ensures) (k .before .fill2 .ensures) (had-long (k .before .before .before .before .before .before .before)) room
+  laid-out =
+      line-is (replicate 298 0) (k .before .before .before .before .before .before .before .before .before .before .before .args .board .held) (k .before .before .before .before .before .before .before .before .before .before .before .args .piece .now) (k .before .before .before .before .copy .last .0) (k .before .copy2 .last .0) (k .before .before .before .before .before .before .before .joined .result) (k .before .before .before .before .copy .ensures) (k .before .copy2 .ensures)
+      (omega (arith, had-short, k .before .before .before .before .before .before .before .before .before .before .before .pre .0)) (omega (arith, k .before .before .before .before .before .before .before .before .before .before .before .pre .0)) room
 
 -- what the call on it gives
 had-taken : tie.Need-sub-call
@@ -48,11 +45,10 @@ run-spec =
     (tie.spec
     (λ c κs. search needs)
     (λ c. search needs)
-    (λ c. omega (arith, had-short (c .before), c .before .before .before .before .before .pre .0))
-    (λ c. sym (had-long (c .before .before)))
-    (λ c κs. omega (arith, had-long (c .before .before), had-short (c .before .before)))
     (λ c. search needs)
-    (λ c κs. omega (arith, had-short (c .before .before .before .before .before), c .before .before .before .before .before .before .before .before .before .pre .2, c .before .before .fill .kept .0))
+    (λ c κs. search needs)
+    (λ c. search needs)
+    (λ c κs. search needs)
     (λ c. omega (arith, room c))
     (λ c. omega (arith, room (c .before .before), long (c .before .before)))
     (λ c. sym (length-take-le _ _ (omega (arith, room (c .before .before .before), long (c .before .before .before)))))
