@@ -1,4 +1,5 @@
-/* The proved receiver of a stepper board. Built by `rt staticlib board` into target/staticlib/libboard.a. */
+/* The proved receiver of a stepper board, and the optimiser's end of its link. `rt staticlib board` and `rt staticlib optimiser` build them
+   into target/staticlib/libboard.a and liboptimiser.a; a program links the one it needs, or both. */
 #ifndef RIVERTOSKU_H
 #define RIVERTOSKU_H
 
@@ -16,6 +17,17 @@ enum {
     RIVERTOSKU_PIECE_TOO_LONG = 1, /* piece over 250 bytes */
     RIVERTOSKU_ROOM_TOO_SMALL = 2, /* reply room under 48 bytes */
     RIVERTOSKU_UNSOUND = 3         /* no board can be in this state */
+};
+
+/* Blocks. */
+enum {
+    RIVERTOSKU_MOV = 1,
+    RIVERTOSKU_ENG = 2,
+    RIVERTOSKU_PWR = 3,
+    RIVERTOSKU_EDS = 4,
+    RIVERTOSKU_HOM = 5,
+    RIVERTOSKU_BRK = 6,
+    RIVERTOSKU_PID = 7
 };
 
 /* Orders. */
@@ -151,7 +163,64 @@ struct rivertosku_board rivertosku_fresh(void);
 struct rivertosku_answer rivertosku_receive(struct rivertosku_board board, const uint8_t *piece, size_t piece_len, uint32_t stamp,
                                             uint8_t *reply, size_t reply_len);
 
-/* The sizes on a 64-bit machine, as Rust has them (rust/src/board.rs, test sizes). */
+/* The optimiser's end, in liboptimiser.a. */
+
+/* The longest frame of a request, and the longest answer. */
+#define RIVERTOSKU_FRAME 48
+
+/* The number of a written request. A refused one writes nothing. */
+enum {
+    RIVERTOSKU_WRITTEN = 0,
+    RIVERTOSKU_OUT_OF_RANGE = 3, /* a value that the board would refuse */
+    RIVERTOSKU_TOO_SHORT = 4,    /* a buffer shorter than the frame */
+    RIVERTOSKU_NOBODY = 9        /* a number of no block or order */
+};
+
+/* The number of a read answer. */
+enum {
+    RIVERTOSKU_READ = 0,
+    RIVERTOSKU_NO_NAME = 5,   /* fewer bytes than a name needs */
+    RIVERTOSKU_NO_ANSWER = 6, /* a name that no answer has */
+    RIVERTOSKU_CUT = 7,       /* fewer bytes than that answer needs */
+    RIVERTOSKU_DAMAGED = 8    /* a wrong CRC */
+};
+
+/* Kinds of answers. */
+enum {
+    RIVERTOSKU_NO_KIND = 0, /* refused */
+    RIVERTOSKU_ZERO = 1,
+    RIVERTOSKU_SET_ECHO = 2,
+    RIVERTOSKU_ORDER_ECHO = 3,
+    RIVERTOSKU_DATA = 4,
+    RIVERTOSKU_ERRC = 5,
+    RIVERTOSKU_ERRD = 6,
+    RIVERTOSKU_ERRV = 7
+};
+
+struct rivertosku_written {
+    uint8_t number; /* 0 written, else the refusal */
+    size_t length;  /* of the frame, to be sent; 0 if refused */
+};
+
+struct rivertosku_reading {
+    uint8_t number; /* 0 read, else the refusal */
+    uint8_t kind;
+    uint8_t what;  /* the block of an echoed set or of data, the order of an echo; 0 otherwise */
+    size_t length; /* of the answer; 0 if refused */
+    struct rivertosku_settings settings; /* data stands in its block, all else is fresh; in range or not */
+};
+
+/* A request's frame at the front of out. Bytes past the frame are kept. */
+struct rivertosku_written rivertosku_write_get(uint8_t block, uint8_t *out, size_t out_len);
+struct rivertosku_written rivertosku_write_order(uint8_t order, uint8_t *out, size_t out_len);
+
+/* A set of one block, with its fields in the settings; the other blocks there are not looked at. */
+struct rivertosku_written rivertosku_write_set(uint8_t block, struct rivertosku_settings settings, uint8_t *out, size_t out_len);
+
+/* One answer from the front of what the board sent. A gain that is no number comes as some NaN. */
+struct rivertosku_reading rivertosku_read(const uint8_t *bytes, size_t bytes_len);
+
+/* The sizes on a 64-bit machine, as Rust has them (rust/src/board.rs and host.rs, tests sizes). */
 #if SIZE_MAX == UINT64_MAX
 static_assert(sizeof(struct rivertosku_mov) == 20, "mov");
 static_assert(sizeof(struct rivertosku_eng) == 20, "eng");
@@ -164,6 +233,8 @@ static_assert(sizeof(struct rivertosku_settings) == 128, "settings");
 static_assert(sizeof(struct rivertosku_notes) == 24, "notes");
 static_assert(sizeof(struct rivertosku_board) == 216, "board");
 static_assert(sizeof(struct rivertosku_answer) == 240, "answer");
+static_assert(sizeof(struct rivertosku_written) == 16, "written");
+static_assert(sizeof(struct rivertosku_reading) == 144, "reading");
 #endif
 
 #endif

@@ -5,7 +5,7 @@
 
 /// Block 1.
 #[repr(C)]
-#[derive(Clone, Copy, PartialEq, Debug)]
+#[derive(Clone, Copy, Default, PartialEq, Debug)]
 pub struct Mov {
     pub speed: u32,
     pub u_speed: u8,
@@ -17,7 +17,7 @@ pub struct Mov {
 
 /// Block 2.
 #[repr(C)]
-#[derive(Clone, Copy, PartialEq, Debug)]
+#[derive(Clone, Copy, Default, PartialEq, Debug)]
 pub struct Eng {
     pub nom_voltage: u16,
     pub nom_current: u16,
@@ -31,7 +31,7 @@ pub struct Eng {
 
 /// Block 3.
 #[repr(C)]
-#[derive(Clone, Copy, PartialEq, Debug)]
+#[derive(Clone, Copy, Default, PartialEq, Debug)]
 pub struct Pwr {
     pub hold_current: u8,
     pub curr_reduct_delay: u16,
@@ -42,7 +42,7 @@ pub struct Pwr {
 
 /// Block 4.
 #[repr(C)]
-#[derive(Clone, Copy, PartialEq, Debug)]
+#[derive(Clone, Copy, Default, PartialEq, Debug)]
 pub struct Eds {
     pub border_flags: u8,
     pub ender_flags: u8,
@@ -54,7 +54,7 @@ pub struct Eds {
 
 /// Block 5.
 #[repr(C)]
-#[derive(Clone, Copy, PartialEq, Debug)]
+#[derive(Clone, Copy, Default, PartialEq, Debug)]
 pub struct Hom {
     pub fast_home: u32,
     pub u_fast_home: u8,
@@ -67,7 +67,7 @@ pub struct Hom {
 
 /// Block 6.
 #[repr(C)]
-#[derive(Clone, Copy, PartialEq, Debug)]
+#[derive(Clone, Copy, Default, PartialEq, Debug)]
 pub struct Brk {
     pub t1: u16,
     pub t2: u16,
@@ -78,7 +78,7 @@ pub struct Brk {
 
 /// Block 7.
 #[repr(C)]
-#[derive(Clone, Copy, Debug)]
+#[derive(Clone, Copy, Default, Debug)]
 pub struct Pid {
     pub kp_u: u16,
     pub ki_u: u16,
@@ -97,7 +97,7 @@ impl PartialEq for Pid {
 }
 
 #[repr(C)]
-#[derive(Clone, Copy, PartialEq, Debug)]
+#[derive(Clone, Copy, Default, PartialEq, Debug)]
 pub struct Settings {
     pub mov: Mov,
     pub eng: Eng,
@@ -161,6 +161,22 @@ pub enum Order {
     Loft = 7,
 }
 
+impl Order {
+    /// The order that has this number of 01, if one has.
+    pub fn numbered(number: u8) -> Option<Order> {
+        Some(match number {
+            1 => Order::Stop,
+            2 => Order::Sstp,
+            3 => Order::Pwof,
+            4 => Order::Left,
+            5 => Order::Rigt,
+            6 => Order::Home,
+            7 => Order::Loft,
+            _ => return None,
+        })
+    }
+}
+
 /// What a call answers.
 #[must_use = "the order is to be carried out, the reply sent, and the rest of the piece offered again with its stamp"]
 #[derive(Debug)]
@@ -206,14 +222,7 @@ impl Board {
             taken: answer.taken,
             order: match answer.order {
                 0 => None,
-                1 => Some(Order::Stop),
-                2 => Some(Order::Sstp),
-                3 => Some(Order::Pwof),
-                4 => Some(Order::Left),
-                5 => Some(Order::Rigt),
-                6 => Some(Order::Home),
-                7 => Some(Order::Loft),
-                n => panic!("the library answered order {n}"),
+                n => Some(Order::numbered(n).unwrap_or_else(|| panic!("the library answered order {n}"))),
             },
             rest: &piece[answer.taken..],
             reply: &reply[..answer.written],

@@ -1,4 +1,4 @@
-//! Random frames, good and nasty, from a seeded generator.
+//! 01's table of blocks, and random frames, good and nasty, from a seeded generator.
 
 use crate::second::crc;
 
@@ -35,9 +35,18 @@ impl Random {
 
 /// A field's width in bytes and its range, or a float.
 #[derive(Clone, Copy)]
-enum Field {
+pub enum Field {
     Whole(usize, i64, i64),
     Float,
+}
+
+impl Field {
+    pub fn width(self) -> usize {
+        match self {
+            Field::Whole(width, ..) => width,
+            Field::Float => 4,
+        }
+    }
 }
 
 const U8: Field = Field::Whole(1, 0, 0xFF);
@@ -48,32 +57,60 @@ const SPEED: Field = Field::Whole(4, 0, 100_000);
 const MICRO: Field = Field::Whole(2, -255, 255);
 const POSITIVE: Field = Field::Whole(2, 1, 0xFFFF);
 
-struct Block {
-    name: &'static [u8; 3],
-    fields: &'static [Field],
-    reserved: usize,
+/// A block: its name behind the letter of a set or a get.
+pub struct Row {
+    pub name: &'static [u8; 3],
+    pub fields: &'static [Field],
+    pub reserved: usize,
 }
 
-const BLOCKS: [Block; 7] = [
-    Block { name: b"mov", fields: &[SPEED, U8, POSITIVE, POSITIVE, SPEED, U8], reserved: 10 },
-    Block {
+impl Row {
+    /// Its set's name or its get's, by the letter in front.
+    pub fn named(&self, letter: u8) -> Vec<u8> {
+        [&[letter], &self.name[..]].concat()
+    }
+
+    /// The bytes of its fields, which the reserved ones follow.
+    pub fn used(&self) -> usize {
+        self.fields.iter().map(|field| field.width()).sum()
+    }
+
+    pub fn total(&self) -> usize {
+        4 + self.used() + self.reserved + 2
+    }
+
+    /// The frame of this data section behind the set's name or the get's.
+    pub fn framed(&self, letter: u8, data: &[u8]) -> Vec<u8> {
+        [&self.named(letter), data, &crc(data).to_le_bytes()].concat()
+    }
+}
+
+/// The block that has this number.
+pub fn row(number: usize) -> &'static Row {
+    &ROWS[number - 1]
+}
+
+pub const ROWS: [Row; 7] = [
+    Row { name: b"mov", fields: &[SPEED, U8, POSITIVE, POSITIVE, SPEED, U8], reserved: 10 },
+    Row {
         name: b"eng",
         fields: &[U16, Field::Whole(2, 15, 8000), Field::Whole(4, 1, 100_000), U8, U16, S16, Field::Whole(1, 1, 9), POSITIVE],
         reserved: 12,
     },
-    Block { name: b"pwr", fields: &[Field::Whole(1, 0, 100), U16, U16, U16, U8], reserved: 6 },
-    Block { name: b"eds", fields: &[U8, U8, S32, MICRO, S32, MICRO], reserved: 6 },
-    Block { name: b"hom", fields: &[SPEED, U8, SPEED, U8, S32, MICRO, U16], reserved: 9 },
-    Block { name: b"brk", fields: &[U16, U16, U16, U16, U8], reserved: 10 },
-    Block { name: b"pid", fields: &[U16, U16, U16, Field::Float, Field::Float, Field::Float], reserved: 24 },
+    Row { name: b"pwr", fields: &[Field::Whole(1, 0, 100), U16, U16, U16, U8], reserved: 6 },
+    Row { name: b"eds", fields: &[U8, U8, S32, MICRO, S32, MICRO], reserved: 6 },
+    Row { name: b"hom", fields: &[SPEED, U8, SPEED, U8, S32, MICRO, U16], reserved: 9 },
+    Row { name: b"brk", fields: &[U16, U16, U16, U16, U8], reserved: 10 },
+    Row { name: b"pid", fields: &[U16, U16, U16, Field::Float, Field::Float, Field::Float], reserved: 24 },
 ];
 
-const ORDERS: [&[u8; 4]; 7] = [b"stop", b"sstp", b"pwof", b"left", b"rigt", b"home", b"loft"];
+pub const ORDERS: [&[u8; 4]; 7] = [b"stop", b"sstp", b"pwof", b"left", b"rigt", b"home", b"loft"];
 
 const NOT_FINITE: [u32; 6] = [0x7F80_0000, 0xFF80_0000, 0x7F80_0001, 0x7FC0_0000, 0xFFFF_FFFF, 0x7FFF_FFFF];
 const FINITE: [u32; 6] = [0, 0x8000_0000, 0x7F7F_FFFF, 0xFF7F_FFFF, 1, 0x3F80_0000];
 
-fn bounds(width: usize, low: i64) -> (i64, i64) {
+/// The least and the most of a width, signed if the field goes below zero.
+pub fn bounds(width: usize, low: i64) -> (i64, i64) {
     let bits = 8 * width as u32;
     if low < 0 {
         (-(1 << (bits - 1)), (1 << (bits - 1)) - 1)
@@ -126,8 +163,8 @@ fn bad(random: &mut Random, field: Field) -> Option<Vec<u8>> {
 }
 
 /// A data section of a block: fields in range, then up to `wrong` of them out of it, and the reserved bytes.
-pub fn data(random: &mut Random, block: usize, wrong: usize) -> Vec<u8> {
-    let row = &BLOCKS[block - 1];
+pub fn data(random: &mut Random, number: usize, wrong: usize) -> Vec<u8> {
+    let row = row(number);
     let mut fields: Vec<_> = row.fields.iter().map(|&f| good(random, f)).collect();
     let mut left = wrong;
     for _ in 0..100 * wrong {
@@ -146,41 +183,45 @@ pub fn data(random: &mut Random, block: usize, wrong: usize) -> Vec<u8> {
     bytes
 }
 
-/// A set frame of a block with this data section.
-pub fn set(block: usize, data: &[u8]) -> Vec<u8> {
-    [b"s", &BLOCKS[block - 1].name[..], data, &crc(data).to_le_bytes()].concat()
-}
-
-pub fn good_set(random: &mut Random) -> Vec<u8> {
-    let block = random.below(7) + 1;
-    let data = data(random, block, 0);
-    set(block, &data)
-}
-
-/// A set whose fields are out of range: one, or more of them.
-pub fn bad_set(random: &mut Random) -> Vec<u8> {
-    let block = random.pick(&[1, 2, 3, 4, 5, 7]);
-    let wrong = random.pick(&[1, 1, 2, 3]);
-    let data = data(random, block, wrong);
-    set(block, &data)
-}
-
-/// Mostly zeros, or nothing else: zeros may end a good set.
-pub fn zero_set(random: &mut Random) -> Vec<u8> {
-    let block = random.below(7) + 1;
-    let mut data = data(random, block, 0);
+/// A data section mostly of zeros, or of nothing else, in range or not: zeros may end a good set.
+pub fn zero_data(random: &mut Random, number: usize) -> Vec<u8> {
+    let mut data = data(random, number, 0);
     let from = random.below(data.len());
     data[from..].fill(0);
     if random.percent(50) {
         data.fill(0);
         data[..2].fill(0xFF);
     }
-    set(block, &data)
+    data
 }
 
-/// A set with a CRC that is wrong: a bit of the frame's data or CRC, its bytes exchanged, or taken over the identifier too.
-pub fn damaged_set(random: &mut Random) -> Vec<u8> {
-    let mut frame = if random.percent(30) { bad_set(random) } else { good_set(random) };
+/// The number of any block.
+pub fn any_block(random: &mut Random) -> usize {
+    random.below(7) + 1
+}
+
+pub fn good_set(random: &mut Random) -> Vec<u8> {
+    let number = any_block(random);
+    let data = data(random, number, 0);
+    row(number).framed(b's', &data)
+}
+
+/// A set whose fields are out of range: one, or more of them.
+pub fn bad_set(random: &mut Random) -> Vec<u8> {
+    let number = random.pick(&[1, 2, 3, 4, 5, 7]);
+    let wrong = random.pick(&[1, 1, 2, 3]);
+    let data = data(random, number, wrong);
+    row(number).framed(b's', &data)
+}
+
+pub fn zero_set(random: &mut Random) -> Vec<u8> {
+    let number = any_block(random);
+    let data = zero_data(random, number);
+    row(number).framed(b's', &data)
+}
+
+/// A frame with its CRC made wrong: a bit of its data or CRC, its bytes exchanged, or taken over the identifier too.
+fn damaged(random: &mut Random, mut frame: Vec<u8>) -> Vec<u8> {
     let end = frame.len() - 2;
     match random.below(6) {
         0 => frame.swap(end, end + 1),
@@ -194,18 +235,13 @@ pub fn damaged_set(random: &mut Random) -> Vec<u8> {
     frame
 }
 
-/// The total length of the block whose name stands in front.
-pub fn total(name: &[u8]) -> usize {
-    let row = BLOCKS.iter().find(|row| name.starts_with(row.name)).expect("a block's name");
-    let widths = row.fields.iter().map(|field| match field {
-        Field::Whole(width, ..) => *width,
-        Field::Float => 4,
-    });
-    6 + widths.sum::<usize>() + row.reserved
+pub fn damaged_set(random: &mut Random) -> Vec<u8> {
+    let frame = if random.percent(30) { bad_set(random) } else { good_set(random) };
+    damaged(random, frame)
 }
 
 pub fn get(random: &mut Random) -> Vec<u8> {
-    [b"g", &random.pick(&BLOCKS.each_ref()).name[..]].concat()
+    row(any_block(random)).named(b'g')
 }
 
 pub fn order(random: &mut Random) -> Vec<u8> {
@@ -217,7 +253,7 @@ pub fn name(random: &mut Random) -> Vec<u8> {
     match random.below(3) {
         0 => get(random),
         1 => order(random),
-        _ => [b"s", &random.pick(&BLOCKS.each_ref()).name[..]].concat(),
+        _ => row(any_block(random)).named(b's'),
     }
 }
 
@@ -236,4 +272,39 @@ pub fn unknown(random: &mut Random) -> Vec<u8> {
         _ => name = random.word().to_le_bytes()[..4].to_vec(),
     }
     name
+}
+
+/// A get's answer as no board need give it: fields out of range, reserved bytes not zero.
+fn data_answer(random: &mut Random) -> Vec<u8> {
+    let number = any_block(random);
+    let wrong = random.pick(&[0, 0, 1, 2, 3]);
+    let data = data(random, number, wrong);
+    row(number).framed(b'g', &data)
+}
+
+/// What may come to a host: answers, damaged ones, and names that no answer has.
+pub fn answer(random: &mut Random) -> Vec<u8> {
+    match random.below(10) {
+        0 => vec![0],
+        1 | 2 => name(random),
+        3 => [b"err", &[random.pick(b"cdv")][..]].concat(),
+        4 => [b"err", &[random.word() as u8][..]].concat(),
+        5 => unknown(random),
+        6 => {
+            let frame = data_answer(random);
+            damaged(random, frame)
+        }
+        _ => data_answer(random),
+    }
+}
+
+#[cfg(test)]
+mod tests {
+    use super::*;
+
+    /// The totals that 01 writes are those of its fields and reserved bytes.
+    #[test]
+    fn totals() {
+        assert_eq!(ROWS.each_ref().map(Row::total), [30, 34, 20, 26, 33, 25, 48]);
+    }
 }

@@ -1,7 +1,10 @@
-//! Where the two receivers' states meet: the library's records and the second receiver's bytes, each turned into the other.
+//! Where the library meets the second receiver and host: the library's records and the second's bytes, each turned into the other, and
+//! what differs.
 
-use crate::board::{Board, Parts, Settings};
-use crate::second::{Second, DATA};
+use crate::board::{Board, Order, Parts, Settings};
+use crate::host::{self, Answer, Block, Fields, ReadRefusal, Request, WriteRefusal};
+use crate::second::{Fault, Second, DATA};
+use crate::second_host;
 
 /// A field on the wire, low byte first.
 trait Field {
@@ -127,4 +130,86 @@ pub fn difference(board: &Board, second: &Second) -> Option<String> {
         return Some(format!("stamp: library {}, second {}", board.stamp(), second.stamp));
     }
     None
+}
+
+fn block_numbered(number: usize) -> Block {
+    Block::numbered(number as u8).expect("seven blocks")
+}
+
+fn order_numbered(number: usize) -> Order {
+    Order::numbered(number as u8).expect("seven orders")
+}
+
+/// The fields of a block that a data section holds.
+fn fields_in(number: usize, data: &[u8]) -> Fields {
+    let mut settings = Settings::default();
+    put_data(&mut settings, number, data);
+    Fields::of(&settings, block_numbered(number))
+}
+
+/// One NaN for all, since the machine bits of a NaN are not promised.
+fn one_nan(mut answer: Answer) -> Answer {
+    if let Answer::Data(Fields::Pid(pid)) = &mut answer {
+        for gain in [&mut pid.kpf, &mut pid.kif, &mut pid.kdf] {
+            if gain.is_nan() {
+                *gain = f32::NAN;
+            }
+        }
+    }
+    answer
+}
+
+/// The second host's request as the library takes it.
+fn request_of(request: &second_host::Request) -> Request {
+    match request {
+        second_host::Request::Get(number) => Request::Get(block_numbered(*number)),
+        second_host::Request::Set(number, data) => Request::Set(fields_in(*number, data)),
+        second_host::Request::Order(number) => Request::Order(order_numbered(*number)),
+    }
+}
+
+/// The second host's answer as the library gives it.
+fn answer_of(answer: &second_host::Answer) -> Answer {
+    match answer {
+        second_host::Answer::Zero => Answer::Zero,
+        second_host::Answer::SetEcho(number) => Answer::SetEcho(block_numbered(*number)),
+        second_host::Answer::OrderEcho(number) => Answer::OrderEcho(order_numbered(*number)),
+        second_host::Answer::Data(number, data) => Answer::Data(fields_in(*number, data)),
+        second_host::Answer::Errc => Answer::Errc,
+        second_host::Answer::Errd => Answer::Errd,
+        second_host::Answer::Errv => Answer::Errv,
+    }
+}
+
+/// Two buffers of the same bytes, which differ from place to place and are not zero.
+pub fn buffers<const N: usize>(salt: usize) -> ([u8; N], [u8; N]) {
+    let filled = std::array::from_fn(|i| (i as u8).wrapping_mul(31).wrapping_add(salt as u8) | 1);
+    (filled, filled)
+}
+
+/// Both hosts write a request into this much room: the frame or the refusal, or in what they differ.
+pub fn write(request: &second_host::Request, room: usize, fault: Fault, salt: usize) -> Result<Result<Vec<u8>, WriteRefusal>, String> {
+    // The buffer goes on behind the room, to see that nothing is written there.
+    let (mut ours, mut theirs) = buffers::<80>(salt);
+    let a = host::write(&request_of(request), &mut ours[..room]);
+    let b = second_host::write(fault, request, &mut theirs[..room]);
+    if a.map_err(|refusal| refusal as u8) != b {
+        return Err(format!("{request:02x?} into {room} bytes, length or refusal: library {a:?}, second {b:?}"));
+    }
+    if ours != theirs {
+        return Err(format!("{request:02x?} into {room} bytes, buffer: library {ours:02x?}, second {theirs:02x?}"));
+    }
+    Ok(a.map(|length| ours[..length].to_vec()))
+}
+
+/// Both hosts read the front of the bytes: the answer and its length or the refusal, or in what they differ.
+pub fn read(bytes: &[u8], fault: Fault) -> Result<Result<(Answer, usize), ReadRefusal>, String> {
+    let ours = host::read(bytes);
+    let theirs = second_host::read(fault, bytes);
+    let a = ours.map(|(answer, length)| (one_nan(answer), length)).map_err(|refusal| refusal as u8);
+    let b = theirs.map(|(answer, length)| (one_nan(answer_of(&answer)), length));
+    if a != b {
+        return Err(format!("{bytes:02x?}, answer and length or refusal: library {a:?}, second {b:?}"));
+    }
+    Ok(ours)
 }

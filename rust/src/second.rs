@@ -3,7 +3,7 @@
 
 macro_rules! faults {
     ($($case:ident = $name:literal,)*) => {
-        /// One place in which the receiver is wrong.
+        /// One place in which the receiver or the host (second_host) is wrong.
         #[derive(Clone, Copy, PartialEq, Eq, Debug)]
         pub enum Fault { None, $($case,)* }
 
@@ -54,6 +54,22 @@ faults! {
     CountOver48 = "unsound-count",
     FlagsOver7 = "unsound-flags",
     FieldOutOfRange = "unsound-field",
+    // A host's writer
+    HostRangeSkipped = "host-range-skipped",
+    HostRangeOneOff = "host-range-one-off",
+    HostReservedSent = "host-reserved-sent",
+    HostCrcHighByteFirst = "host-crc-high-byte-first",
+    HostRoomBeforeRange = "host-room-before-range",
+    HostWritesPast = "host-writes-past",
+    HostWritesWhatFits = "host-writes-what-fits",
+    HostWrittenOneOff = "host-written-one-off",
+    // A host's reader
+    HostZeroNotFirst = "host-zero-not-first",
+    HostCutBeforeName = "host-cut-before-name",
+    HostCrcUnread = "host-crc-unread",
+    HostReadOneOff = "host-read-one-off",
+    HostReaderJudgesRange = "host-reader-judges-range",
+    HostReaderJudgesReserved = "host-reader-judges-reserved",
 }
 
 const TOTAL: [usize; 7] = [30, 34, 20, 26, 33, 25, 48];

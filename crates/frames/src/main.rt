@@ -1,5 +1,9 @@
 // Runs frames on the library and prints of each call: number, taken, written, order, reply. The cases of 01, "Frames on the bench", that are
-// not starred; a board that breaks each rule of soundness; and for every block a good set with its get, a wrong CRC, every range at its edges.
+// not starred; a board that breaks each rule of soundness; for every block a good set with its get, a wrong CRC, every range at its edges;
+// and the host's requests (requests.rt).
+mod print;
+mod requests;
+
 use brk::Brk;
 use eds::Eds;
 use eng::Eng;
@@ -10,52 +14,22 @@ use pwr::Pwr;
 use receiver::Board;
 use settings::Settings;
 use unit::Notes;
-ghost use Prim.Native.Nat.{_≤_};
-
-fn say(text: &[u8]) {
-    io::write_all(1, text);
-}
-
-fn decimal(n: u64) {
-    say(b" ");
-    io::print_decimal(1, n);
-}
-
-// The first n bytes of a part, or `-`.
-fn hexadecimal(part: &[u8], n: usize) {
-    say(b" ");
-    if n == 0 {
-        say(b"-");
-    }
-    let end = least(n, part.len());
-    let mut k = 0;
-    while k < end {
-        io::print_hex(1, part[k] as u64, 2);
-        k += 1;
-    }
-}
-
-fn least(a: usize, b: usize) -> usize
-    ensures { λ r. ⌜ (r ≤ a) × (r ≤ b) ⌝ }
-{
-    if a < b { a } else { b }
-}
 
 // One call, printed behind what it is about: number, taken, written, order, reply; flags, last refused block and field. The next board.
 fn show_in(about: &[u8], board: Board, piece: &[u8], reply: &mut [u8]) -> Board {
     let call = receiver::receive(board, piece, 7, reply);
     let order = call.order;
     let next = call.board;
-    say(about);
-    decimal(call.number as u64);
-    decimal(call.taken as u64);
-    decimal(call.written as u64);
-    decimal(unit::names::order_number(order) as u64);
-    hexadecimal(reply, call.written);
-    decimal(next.notes.flags as u64);
-    decimal(next.notes.block as u64);
-    decimal(next.notes.field as u64);
-    say(b"\n");
+    print::say(about);
+    print::decimal(call.number as u64);
+    print::decimal(call.taken as u64);
+    print::decimal(call.written as u64);
+    print::decimal(unit::names::order_number(order) as u64);
+    print::hexadecimal(reply, call.written);
+    print::decimal(next.notes.flags as u64);
+    print::decimal(next.notes.block as u64);
+    print::decimal(next.notes.field as u64);
+    print::say(b"\n");
     next
 }
 
@@ -71,7 +45,7 @@ fn framed(name: u32, block: usize, place: usize, width: usize, n: u64, off: u8) 
     let fresh = Settings::fresh();
     fresh.get(block, &mut section);
     wire::put(&mut section, place, width, n);
-    let size = least(unit::names::total_of(block) - 6, 42);
+    let size = print::least(unit::names::total_of(block) - 6, 42);
     let sum = crc::crc(&section[..size]) as u64 + off as u64;
     let mut frame = [0u8; 48];
     wire::put(&mut frame, 0, 4, name as u64);
@@ -91,7 +65,7 @@ fn show_set(
     off: u8,
 ) -> Board {
     let frame = framed(name, block, place, width, n, off);
-    let size = least(unit::names::total_of(block), 48);
+    let size = print::least(unit::names::total_of(block), 48);
     show(about, receiver::fresh(), &frame[..size])
 }
 
@@ -265,4 +239,5 @@ fn main() {
     show_engine();
     show_borders();
     show_gains();
+    requests::show_all();
 }

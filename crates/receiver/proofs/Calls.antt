@@ -47,7 +47,7 @@ accept-some s t room [] h k = absurd (omega arith)
 accept-some s t room (x ∷ piece) h k = accept-takes protocol s t room x piece (omega (arith, reply-most s t x))
 
 -- its first byte finds the state ready
-accept-readied : (s : State Memory) (t room : ℕ) (piece : List ℕ) → 48 ≤ room → 0 < length piece
+pub accept-readied : (s : State Memory) (t room : ℕ) (piece : List ℕ) → 48 ≤ room → 0 < length piece
     → accept protocol s t room piece ≡ accept protocol (ready protocol s t) t room piece
 accept-readied s t room [] h k = absurd (omega arith)
 accept-readied s t room (x ∷ piece) h k = accept-ready protocol silent s t room x piece (omega (arith, reply-most s t x))

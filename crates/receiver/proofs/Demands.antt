@@ -10,6 +10,7 @@ use lib.Dec.{eqb, ltb}
 use lib.ListN.{length, getD, take, drop, replicate}
 use lib.Seq.{take-append-seam, drop-append-seam}
 use Rattle.promise.specs.Promise.{Leaves}
+use Rattle.frame.specs.Frame.{dataIn}
 use Rattle.sheet.specs.Rows.{rowAt, canonical}
 use Rattle.rule.specs.Run.{Item, byte, bytes, at}
 use Rattle.rule.specs.Framing.{Token, whole, unitsOf}
@@ -25,7 +26,7 @@ use Rattle.rule.proofs.Largest.{accept-largest, largest-one}
 use Rattle.rule.proofs.Bytes.{units-bytes}
 use Rattle.rule.proofs.Numbered.{Accepted, call-accepted, call-number, call-zero, call-fits}
 use Rattle.unit.specs.Names.{kindOf, nameOf}
-use Rattle.unit.specs.Unit.{Memory, Event, freshMemory, dataIn, act, orderOf}
+use Rattle.unit.specs.Unit.{Memory, Event, freshMemory, act, orderOf}
 use Rattle.unit.specs.Protocol.{protocol, soundState, freshState}
 use Rattle.unit.proofs.Need.{need-law}
 use Rattle.unit.proofs.Replies.{given}
@@ -259,7 +260,7 @@ module _ {b : Board} {t : ℕ} {p before after : List ℕ} {r : Call} (got : Ans
       (λ i. then (got-said i) (λ _. e i)) ∙ (λ i. then (leaves (none i)) (λ _. leaves (steps protocol (none i .next) run)))
 
 -- every offered run says and leaves what the byte steps over it do
-offered-steps : {b : Board} {run : List (Item Event)} {x : Said Order Board} → Offered b run x → (s : State Memory) → b ≡ boardOf s
+pub offered-steps : {b : Board} {run : List (Item Event)} {x : Said Order Board} → Offered b run x → (s : State Memory) → b ≡ boardOf s
     → x ≡ leaves (steps protocol s run)
 unfolding steps
 offered-steps (done b) s is = λ i. quiet (is i)

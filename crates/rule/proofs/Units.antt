@@ -1,7 +1,7 @@
 -- What a loop over the whole units of a line needs of `accept`: the line is the bytes held with the piece behind them, and from its front, with
 -- nothing unfinished, `later` goes on unit by unit.
 use Prim.Native.Nat.{ℕ, suc, _+_, _-_, _<_, _≤_}
-use mathlib.Core.Path.{_≡_, refl, ap, sym, _∙_}
+use mathlib.Core.Path.{_≡_, refl, ap, sym, subst, _∙_}
 use mathlib.Core.Bool.{Bool, true, false}
 use mathlib.Core.List.{List, [], _∷_, _++_, append-assoc}
 use native.Mathlib.Omega.{arith}
@@ -115,3 +115,28 @@ module _ {E O M : Type 0} (p : Protocol E O M) (law : Needs (p .need)) where
       unit-stop h o os e =
           let k : i + (n - 1) + 1 ≡ i + n = omega (arith, some) in
           but-one ∙ later-stop p (i + (n - 1)) out (stateAt m (take (n - 1) d) t) t room x (drop n d) (rw says-unit h) o os (rw says-unit e) ∙ rw (says-unit, k)
+
+  -- ONE WHOLE UNIT ALONE, where nothing is unfinished and its reply fits: it is taken whole, and the call says what the unit does
+  module _ (m : M) (t room : ℕ) (d : List ℕ) (is : p .need d ≡ length d) where
+    abbrev said : Said O M
+    said = p .act m (whole d)
+
+    -- all of it is its front
+    all-front : p .act m (whole (take (length d) d)) ≡ said
+    all-front = ap (λ (u : List ℕ). p .act m (whole u)) (take-length d)
+
+    pub unit-alone : length (said .reply) ≤ room → accept p (stateAt m [] t) t room d ≡ over (length d) (said .reply) (said .orders) (stateAt (said .next) [] t)
+    unit-alone fits = later-start p (stateAt m [] t) t room d ∙ by (said .orders) refl
+      where
+        fits-front : length (p .act m (whole (take (length d) d)) .reply) ≤ room
+        fits-front = subst (λ (a : Said O M). length (a .reply) ≤ room) (sym all-front) fits
+
+        by : (os : List O) → said .orders ≡ os → later p 0 [] (stateAt m [] t) t room d ≡ over (length d) (said .reply) (said .orders) (stateAt (said .next) [] t)
+        by [] e =
+            unit-turn 0 [] m t room d (length d) (sym is) (omega arith) fits-front (ap (λ (a : Said O M). a .orders) all-front ∙ e)
+            ∙ (λ i. later p (zero-add (length d) i) (all-front i .reply) (stateAt (all-front i .next) [] t) t (room - length (all-front i .reply)) (drop-length d i))
+            ∙ later-end p (length d) (said .reply) (stateAt (said .next) [] t) t (room - length (said .reply))
+            ∙ ap (λ (l : List O). over (length d) (said .reply) l (stateAt (said .next) [] t)) (sym e)
+        by (o ∷ os) e =
+            unit-stop 0 [] m t room d (length d) (sym is) (omega arith) fits-front o os (ap (λ (a : Said O M). a .orders) all-front ∙ e)
+            ∙ (λ i. over (zero-add (length d) i) (all-front i .reply) (all-front i .orders) (stateAt (all-front i .next) [] t))

@@ -8,7 +8,9 @@ use native.Mathlib.Omega.{arith}
 use borrow.Author.Tests.{eqb-true, eqb-false}
 use lib.Dec.{eqb}
 use lib.ListN.{length, getD, take, replicate}
+use lib.Seq.{sets, length-sets}
 use Rattle.wire.specs.Layout.{sum, Room}
+use Rattle.wire.proofs.Stores.{front-stored}
 use Rattle.wire.proofs.Laid.{numbers-laid, laid-numbers, laid-then-zeros, length-laid, length-numbers, numbers-room, numbers-take, room-length}
 use Rattle.sheet.specs.Sheet.{Row}
 use Rattle.sheet.specs.Rows.{widths, total, numbersIn, dataOf, canonical, least, leastFrom}
@@ -42,6 +44,14 @@ module _ (r : Row) where
 
   pub numbers-fit : (d : List ℕ) → ((i : ℕ) → getD d i 0 < 256) → Room (widths r) (numbersIn r d)
   numbers-fit d b = numbers-room (widths r) 0 d b
+
+  -- laid out aside, in a buffer that the longest frame fits, it stands in front
+  module _ (ns : List ℕ) (n : ℕ) (is : n ≡ total r) (most : total r ≤ 48) (zs aside : List ℕ) (room : 48 ≡ length zs) (laid : aside ≡ sets zs 0 (dataOf r ns)) where
+    pub aside-fits : n - 6 ≤ length aside
+    aside-fits = omega (arith, ap length laid ∙ length-sets zs 0 (dataOf r ns))
+
+    pub aside-front : take (n - 6) aside ≡ dataOf r ns
+    aside-front = ap (take (n - 6)) laid ∙ front-stored zs (dataOf r ns) (n - 6) (data-length ns ∙ ap (λ (k : ℕ). k - 6) (sym is)) (omega arith)
 
 -- ---- the number of a fresh field is the smallest that its test takes
 

@@ -10,13 +10,14 @@ use Rattle.crc.specs.Crc.{crcBit, crcBits, crcByte, crcFrom, crcOf}
 use Rattle.wire.specs.Numbers.{leAt, leBytes}
 use Rattle.wire.specs.Layout.{laid}
 use Rattle.wire.specs.Tests.{within, firstFalse}
+use Rattle.frame.specs.Frame.{intact}
 use Rattle.sheet.specs.Rows.{least}
 use Rattle.settings.specs.Settings.{numbersAt}
 use Rattle.rule.specs.Run.{Item, at, wait, late, onward, lastStamp}
 use Rattle.rule.specs.Framing.{front, units}
 use Rattle.rule.specs.Rule.{deal, wholeRun}
 use Rattle.unit.specs.Names.{orderNumber, setBlock, getBlock, orderKind, kindOf, need}
-use Rattle.unit.specs.Unit.{Event, freshMemory, intact, gets, checked, puts, does, act}
+use Rattle.unit.specs.Unit.{Event, freshMemory, gets, checked, puts, does, act}
 use Rattle.unit.specs.Protocol.{protocol}
 
 -- ---- what a case says

@@ -8,6 +8,7 @@ use lib.Dec.{eqb}
 use lib.ListN.{getD}
 use borrow.Author.Tests.{eqb-true, eqb-false}
 use Rattle.wire.specs.Numbers.{leBytes}
+use Rattle.frame.specs.Frame.{dataIn, intact}
 use Rattle.sheet.specs.Names.{named}
 use Rattle.sheet.specs.Sheet.{Row}
 use Rattle.sheet.specs.Rows.{rowAt}
@@ -18,7 +19,7 @@ use Rattle.rule.specs.Framing.{Token, whole, lost, seen}
 use Rattle.rule.specs.Rule.{Said, deal}
 use Rattle.rule.proofs.Choice.{eitherBy}
 use Rattle.unit.specs.Names.{kindOf, nameOf}
-use Rattle.unit.specs.Unit.{Memory, Event, dataIn, intact, gets, stored, does, act}
+use Rattle.unit.specs.Unit.{Memory, Event, gets, stored, does, act}
 use Rattle.unit.specs.Protocol.{protocol}
 use Rattle.unit.specs.declared.names.Order.{Order}
 use Rattle.unit.specs.declared.names.Kind.{Kind}

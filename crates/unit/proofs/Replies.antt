@@ -1,13 +1,14 @@
 -- What a unit says: the answers case by case, how long a reply is, and which orders are given. Assumes nothing.
 use mathlib.Core.Path.{_≡_, refl}
-use mathlib.Core.List.{List, [], _∷_, _++_}
-use Prim.Native.Nat.{ℕ, _+_, _≤_}
+use mathlib.Core.List.{List, [], _∷_}
+use Prim.Native.Nat.{ℕ, _≤_}
 use native.Mathlib.Omega.{arith}
 use lib.Dec.{eqb, ltb}
-use lib.ListN.{length, getD, length-append}
+use lib.ListN.{length, getD}
 use borrow.Author.Tests.{eq-eqb, ne-eqb, eqb-true}
-use Rattle.wire.specs.Numbers.{leBytes}
 use Rattle.wire.proofs.Numbers.{length-leBytes}
+use Rattle.frame.specs.Frame.{framed, dataIn, intact}
+use Rattle.frame.proofs.Frames.{frame-length}
 use Rattle.sheet.specs.Names.{named}
 use Rattle.sheet.specs.Sheet.{Row}
 use Rattle.sheet.specs.Rows.{rowAt, total, dataOf}
@@ -22,7 +23,7 @@ use Rattle.rule.specs.Facts.{Silent}
 use Rattle.rule.proofs.Choice.{eitherBy, either}
 use Rattle.rule.proofs.Progress.{step-says}
 use Rattle.unit.specs.Names.{kindOf, orderKind, setBlock, getBlock, nameOf, replied}
-use Rattle.unit.specs.Unit.{Memory, dataIn, intact, puts, checked, damaged, outOfRange, stored, gets, does, answered, zeroed, act, orderOf}
+use Rattle.unit.specs.Unit.{Memory, puts, checked, damaged, outOfRange, stored, gets, does, answered, zeroed, act, orderOf}
 use Rattle.unit.specs.Protocol.{protocol}
 use Rattle.unit.specs.declared.names.Order.{Order}
 use Rattle.unit.specs.declared.names.Order.the-variants.{Nothing, Stop, Sstp, Pwof, Left, Rigt, Home, Loft}
@@ -56,16 +57,15 @@ module _ (m : Memory) (u : List ℕ) where
 -- ---- how long a reply is
 
 -- "the get name, data, CRC" is as long as the set
-get-length : (r : Row) (ns : List ℕ) (name crc : ℕ) → length (leBytes 4 name ++ (dataOf r ns ++ leBytes 2 crc)) ≡ total r
-get-length r ns name crc =
-    simp (length-append, length-leBytes) (omega (arith, data-length r ns))
+get-length : (r : Row) (ns : List ℕ) (name : ℕ) → length (framed name (dataOf r ns)) ≡ total r
+get-length r ns name = omega (arith, frame-length name (dataOf r ns), data-length r ns)
 
 pub does-length : (m : Memory) (u : List ℕ) (k : Kind) → length (does m u k .reply) ≡ replied k
 unfolding does gets
 does-length m u (Set k) =
     puts-cases (λ (a : Said Order Memory). length (a .reply) ≡ 4) m k u (length-leBytes 4 (named "errd")) (length-leBytes 4 (named "errv"))
     (λ _. length-leBytes 4 (nameOf u))
-does-length m u (Get k) = get-length (rowAt k) (numbersAt (m .settings) k) (nameOf u) _
+does-length m u (Get k) = get-length (rowAt k) (numbersAt (m .settings) k) (nameOf u)
 does-length m u (Gives o) = length-leBytes 4 (nameOf u)
 does-length m u Unknown = length-leBytes 4 (named "errc")
 

@@ -4,9 +4,8 @@ use mathlib.Core.List.{List, [], _∷_, _++_, append-assoc}
 use Prim.Native.Nat.{ℕ, _-_, _<_, _≤_}
 use native.Mathlib.Omega.{arith}
 use lib.ListN.{length, getD, length-take, length-drop}
-use Rattle.crc.specs.Crc.{crcOf}
-use Rattle.wire.specs.Numbers.{leBytes}
 use Rattle.wire.specs.Layout.{sum}
+use Rattle.frame.specs.Frame.{framed, dataIn}
 use Rattle.sheet.specs.Rows.{rowAt, widths, total, canonical}
 use Rattle.settings.specs.Settings.{dataAt}
 use Rattle.settings.proofs.Keep.{get-same, bad-put}
@@ -16,7 +15,7 @@ use Rattle.rule.specs.Rule.{Said, deal, wholeRun}
 use Rattle.rule.proofs.Said.{deal-append}
 use Rattle.rule.proofs.Whole.{part-bytes, whole-long, whole-bytes}
 use Rattle.unit.specs.Names.{kindOf, nameOf, span, need}
-use Rattle.unit.specs.Unit.{Memory, Event, dataIn, gets, does, act}
+use Rattle.unit.specs.Unit.{Memory, Event, gets, does, act}
 use Rattle.unit.specs.Protocol.{protocol}
 use Rattle.unit.specs.declared.names.Order.{Order}
 use Rattle.unit.specs.declared.names.Kind.the-variants.{Get}
@@ -28,7 +27,7 @@ use Rattle.unit.proofs.Kept.{act-kind, Accepts, accepted, Without, kept
 
 -- "Get: reply the get name, data, CRC."
 abbrev pub getReply : ℕ → List ℕ → List ℕ
-getReply k d = leBytes 4 (rowAt k .getName) ++ (d ++ leBytes 2 (crcOf d))
+getReply k d = framed (rowAt k .getName) d
 
 -- a get of block k sends what the block holds, and alters nothing
 pub got : (m : Memory) (g : List ℕ) (k : ℕ) → (getD g 0 0 ≡ 0 → ⊥) → kindOf (nameOf g) ≡ Get k

@@ -1,21 +1,21 @@
 -- What a set's checks come to, in their sequence. Assumes nothing.
 use mathlib.Core.Path.{_≡_, refl, sym, ap, _∙_}
-use mathlib.Core.Bool.{Bool, true, false}
+use mathlib.Core.Bool.{true, false}
 use mathlib.Core.List.{List}
-use Prim.Native.Nat.{ℕ, _-_, _≤_}
+use Prim.Native.Nat.{ℕ, _-_}
 use native.Mathlib.Omega.{arith}
-use lib.Dec.{ltb}
 use lib.ListN.{length, take, drop}
 use lib.Bits.{bitOr}
 use lib.Seq.{sets}
-use borrow.Author.Tests.{eq-eqb, ne-eqb, ltb-false}
+use borrow.Author.Tests.{eq-eqb, ne-eqb}
 use Rattle.wire.specs.Numbers.{leBytes}
+use Rattle.frame.specs.Frame.{dataIn, intact}
 use Rattle.sheet.specs.Names.{named}
 use Rattle.settings.specs.declared.Settings.{Settings}
 use Rattle.settings.specs.Settings.{putAt, badAt}
 use Rattle.rule.specs.Rule.{Said}
 use Rattle.unit.specs.Names.{nameOf}
-use Rattle.unit.specs.Unit.{Memory, dataIn, intact, flag, puts, checked, damaged, outOfRange, stored, Judges}
+use Rattle.unit.specs.Unit.{Memory, flag, puts, checked, damaged, outOfRange, stored, Judges}
 use Rattle.unit.specs.declared.Notes.{Notes}
 use Rattle.unit.specs.declared.Judged.{Judged}
 use Rattle.unit.specs.declared.names.Order.{Order}
@@ -24,15 +24,6 @@ use Rattle.unit.specs.declared.names.Order.the-variants.{Nothing}
 -- an answer that is another's
 pub answered-as : {a : Said Order Memory} {before after : List ℕ} {d e : Judged} → d ≡ e → Judges a before e after → Judges a before d after
 answered-as p j = record { result = p ∙ j .result; reply = j .reply }
-
--- an intact unit has a name and a CRC
-pub intact-long : (u : List ℕ) → intact u ≡ true → 6 ≤ length u
-unfolding intact
-intact-long u e = by (ltb (length u) 6) refl
-  where
-    by : (y : Bool) → ltb (length u) 6 ≡ y → 6 ≤ length u
-    by true f = let z : false ≡ true = rw f at e in absurd (let n : _≡_ {A = ℕ} 0 1 = cc in omega arith)
-    by false f = ltb-false (length u) 6 f
 
 module _ (m : Memory) (k : ℕ) (u : List ℕ) where
   abbrev bad : ℕ

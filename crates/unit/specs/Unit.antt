@@ -1,14 +1,14 @@
 -- What one whole unit does to the memory: the only place that knows the protocol.
-use mathlib.Core.Bool.{Bool, false, cond}
-use mathlib.Core.List.{List, [], _∷_, _++_}
+use mathlib.Core.Bool.{cond}
+use mathlib.Core.List.{List, [], _∷_}
 use mathlib.Core.Path.{_≡_}
-use Prim.Native.Nat.{ℕ, _-_}
+use Prim.Native.Nat.{ℕ}
 use lib.Bits.{bitOr}
-use lib.Dec.{eqb, ltb}
-use lib.ListN.{getD, length, take, drop}
+use lib.Dec.{eqb}
+use lib.ListN.{getD}
 use lib.Seq.{sets}
-use Rattle.crc.specs.Crc.{crcOf}
-use Rattle.wire.specs.Numbers.{leAt, leBytes}
+use Rattle.wire.specs.Numbers.{leBytes}
+use Rattle.frame.specs.Frame.{framed, dataIn, intact}
 use Rattle.sheet.specs.Names.{named}
 use Rattle.settings.specs.declared.Settings.{Settings}
 use Rattle.settings.specs.Settings.{dataAt, putAt, badAt, freshSettings}
@@ -34,19 +34,6 @@ freshMemory = record { settings = freshSettings; notes = record { flags = 0; blo
 -- nothing but bytes comes in, yet
 pub data Event : Type 0 where
 
--- ---- a set's frame
-
--- "It covers the data section only, which starts after the fourth byte of the frame and stops before the CRC."
-abbrev pub dataIn : List ℕ → List ℕ
-dataIn u = take (length u - 6) (drop 4 u)
-
--- the CRC stands in the last two bytes, low byte first
-abbrev pub crcIn : List ℕ → ℕ
-crcIn u = leAt 2 (length u - 2) u
-
-unfoldable pub intact : List ℕ → Bool
-intact u = cond (ltb (length u) 6) false (eqb (crcOf (dataIn u)) (crcIn u))
-
 -- ---- the answers
 
 abbrev pub flag : ℕ → Notes → Notes
@@ -58,9 +45,7 @@ unknown m = record { reply = leBytes 4 (named "errc"); orders = []; next = recor
 
 -- "Get: reply the get name, data, CRC."
 unfoldable pub gets : Memory → ℕ → ℕ → Said Order Memory
-gets m name k =
-    let d = dataAt (m .settings) k in
-    record { reply = leBytes 4 name ++ (d ++ leBytes 2 (crcOf d)); orders = []; next = m }
+gets m name k = record { reply = framed name (dataAt (m .settings) k); orders = []; next = m }
 
 -- "Order: reply the identifier, give the order."
 abbrev pub gives : Memory → ℕ → Order → Said Order Memory

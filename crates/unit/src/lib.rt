@@ -6,7 +6,7 @@ use names::Order;
 use settings::Settings;
 ghost use mathlib.Core.Path.{_≡_};
 ghost use Rattle.unit.specs.declared.names.Order.the-variants.{Nothing};
-ghost use Rattle.unit.specs.Unit.{memory, flag, intact, puts, gets, does, Judges};
+ghost use Rattle.unit.specs.Unit.{memory, flag, puts, gets, does, Judges};
 
 // What a unit can change besides the settings: the flags, the last refused block and field. All are words, so that a copy has no gap to move.
 #[repr(C)]
@@ -21,12 +21,6 @@ pub struct Judged {
     pub settings: Settings,
     pub notes: Notes,
 }
-
-const ERRC: u64 = 0x63727265;
-
-const ERRD: u64 = 0x64727265;
-
-const ERRV: u64 = 0x76727265;
 
 fn flagged(notes: Notes, bit: usize) -> Notes
     ensures { λ r. ⌜ r ≡ flag bit notes ⌝ }
@@ -46,17 +40,6 @@ fn no_order(settings: Settings, notes: Notes) -> Judged
     }
 }
 
-// Whether the CRC in a unit's last two bytes is that of its data section.
-fn is_intact(unit: &[u8]) -> bool
-    ensures { λ r. ⌜ r ≡ intact (now (unit .entry)) ⌝ }
-{
-    if unit.len() < 6 {
-        return false;
-    }
-    let end = unit.len() - 2;
-    crc::crc(&unit[4..end]) == wire::u16_at(unit, end)
-}
-
 // A get's answer. The data section is laid out aside, so that its CRC is taken of what is sent.
 fn answer_get(settings: Settings, notes: Notes, name: u32, k: usize, reply: &mut [u8]) -> Judged
     ensures { λ r. ⌜ Judges (gets (memory settings notes) name k) (now (reply .entry)) r (now (reply .exit)) ⌝ }
@@ -64,9 +47,7 @@ fn answer_get(settings: Settings, notes: Notes, name: u32, k: usize, reply: &mut
     let mut section = [0u8; 48];
     settings.get(k, &mut section);
     let n = names::total_of(k) - 6;
-    wire::put(reply, 0, 4, name as u64);
-    wire::copy(reply, 4, &section[..n]);
-    wire::put(reply, 4 + n, 2, crc::crc(&section[..n]) as u64);
+    frame::put(reply, name, &section[..n]);
     no_order(settings, notes)
 }
 
@@ -74,15 +55,15 @@ fn answer_get(settings: Settings, notes: Notes, name: u32, k: usize, reply: &mut
 fn answer_set(settings: Settings, notes: Notes, k: usize, unit: &[u8], reply: &mut [u8]) -> Judged
     ensures { λ r. ⌜ Judges (puts (memory settings notes) k (now (unit .entry))) (now (reply .entry)) r (now (reply .exit)) ⌝ }
 {
-    if !is_intact(unit) {
-        wire::put(reply, 0, 4, ERRD);
+    if !frame::is_intact(unit) {
+        wire::put(reply, 0, 4, sheet::names::ERRD as u64);
         return no_order(settings, flagged(notes, 2));
     }
     let end = unit.len() - 2;
     let next = settings.put(k, &unit[4..end]);
     let bad = next.first_bad(k);
     if bad != 0 {
-        wire::put(reply, 0, 4, ERRV);
+        wire::put(reply, 0, 4, sheet::names::ERRV as u64);
         let flags = notes.flags | 4;
         let refused = Notes {
             flags,
@@ -116,7 +97,7 @@ pub fn answer(settings: Settings, notes: Notes, kind: Kind, unit: &[u8], reply: 
             };
         }
         Kind::Unknown => {
-            wire::put(reply, 0, 4, ERRC);
+            wire::put(reply, 0, 4, sheet::names::ERRC as u64);
             return no_order(settings, flagged(notes, 1));
         }
     }

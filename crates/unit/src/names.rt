@@ -6,6 +6,7 @@ use hom::Hom;
 use mov::Mov;
 use pid::Pid;
 use pwr::Pwr;
+use sheet::names;
 ghost use mathlib.Core.Path.{_≡_};
 ghost use Rattle.sheet.specs.Rows.{rowAt, total};
 ghost use Rattle.unit.specs.Names.{setBlock, getBlock, orderKind, kindOf, span, replied, orderNumber};
@@ -83,42 +84,28 @@ fn get_block(name: u32) -> usize
     0
 }
 
-const STOP: u32 = 0x706f7473;
-
-const SSTP: u32 = 0x70747373;
-
-const PWOF: u32 = 0x666f7770;
-
-const LEFT: u32 = 0x7466656c;
-
-const RIGT: u32 = 0x74676972;
-
-const HOME: u32 = 0x656d6f68;
-
-const LOFT: u32 = 0x74666f6c;
-
 fn order_kind(name: u32) -> Kind
     ensures { λ r. ⌜ r ≡ orderKind name ⌝ }
 {
-    if name == STOP {
+    if name == names::STOP {
         return Kind::Gives(Order::Stop);
     }
-    if name == SSTP {
+    if name == names::SSTP {
         return Kind::Gives(Order::Sstp);
     }
-    if name == PWOF {
+    if name == names::PWOF {
         return Kind::Gives(Order::Pwof);
     }
-    if name == LEFT {
+    if name == names::LEFT {
         return Kind::Gives(Order::Left);
     }
-    if name == RIGT {
+    if name == names::RIGT {
         return Kind::Gives(Order::Rigt);
     }
-    if name == HOME {
+    if name == names::HOME {
         return Kind::Gives(Order::Home);
     }
-    if name == LOFT {
+    if name == names::LOFT {
         return Kind::Gives(Order::Loft);
     }
     Kind::Unknown

@@ -10,13 +10,18 @@ use lib.ListN.{length, getD, take, drop, replicate, length-append, drop-of-lengt
 use lib.Seq.{sets, length-sets, getD-at, getD-drop, drop-cons, drop-drop, take-add}
 use Rattle.wire.specs.Numbers.{leAt, leBytes}
 use Rattle.wire.specs.Layout.{numbers, laid, sum, Room}
-use Rattle.wire.proofs.Numbers.{length-leBytes, leBytes-zero, leAt-lt, leAt-append, leAt-take, leAt-leBytes, leBytes-leAt}
+use Rattle.wire.proofs.Numbers.{length-leBytes, leBytes-zero, leBytes-low, append-low, leAt-lt, leAt-append, leAt-take, leAt-leBytes, leBytes-leAt}
 use Rattle.wire.proofs.Stores.{sets-append, sets-past}
 
 pub length-laid : (ws vs : List ℕ) → length (laid ws vs) ≡ sum ws
 unfolding laid
 length-laid [] vs = refl
 length-laid (w ∷ ws) vs = rw (length-append, length-leBytes, length-laid ws (drop 1 vs))
+
+pub laid-low : (ws vs : List ℕ) (i : ℕ) → getD (laid ws vs) i 0 < 256
+unfolding laid
+laid-low [] vs i = omega arith
+laid-low (w ∷ ws) vs i = append-low (leBytes w (getD vs 0 0)) (laid ws (drop 1 vs)) (leBytes-low w (getD vs 0 0)) (laid-low ws (drop 1 vs)) i
 
 pub length-numbers : (ws : List ℕ) (p : ℕ) (s : List ℕ) → length (numbers ws p s) ≡ length ws
 length-numbers [] p s = refl

@@ -19,6 +19,19 @@ unfolding leBytes
 leBytes-zero zero = refl
 leBytes-zero (suc w) = ap (λ (l : List ℕ). 0 ∷ l) (leBytes-zero w)
 
+-- ---- bytes are below 256
+
+pub leBytes-low : (w v i : ℕ) → getD (leBytes w v) i 0 < 256
+unfolding leBytes
+leBytes-low zero v i = omega arith
+leBytes-low (suc w) v zero = omega arith
+leBytes-low (suc w) v (suc i) = leBytes-low w (v / 256) i
+
+pub append-low : (a b : List ℕ) → ((i : ℕ) → getD a i 0 < 256) → ((i : ℕ) → getD b i 0 < 256) → (i : ℕ) → getD (a ++ b) i 0 < 256
+append-low [] b l m i = m i
+append-low (x ∷ a) b l m zero = l 0
+append-low (x ∷ a) b l m (suc i) = append-low a b (λ j. l (suc j)) m i
+
 -- a number of w bytes is below 256 ^ w
 pub leAt-lt : (w p : ℕ) (s : List ℕ) → ((i : ℕ) → getD s i 0 < 256) → leAt w p s < 256 ^ w
 unfolding leAt

@@ -7,7 +7,7 @@ use native.Mathlib.Nat.{add-zero, add-suc, suc-add, lt-irrefl, le-of-eq}
 use native.Mathlib.Numerals.{add-one, sub-one}
 use native.Mathlib.Omega.{arith}
 use lib.ListN.{length, getD, take, drop, set, length-drop, drop-of-length-le, take-append-drop}
-use lib.Seq.{sets, sets-eq, set-out, getD-set-other, take-set-le, drop-set-add, drop-cons, take-all, drop-drop, length-take-le}
+use lib.Seq.{sets, sets-eq, set-out, getD-set-other, take-set-le, drop-set-add, drop-cons, take-all, take-append-seam, drop-drop, length-take-le}
 use lib.Dec.{leb}
 use borrow.Author.Tests.{leb-true, leb-false}
 use borrow.Rule.Slice.PartMut.{midOf, putMid}
@@ -17,6 +17,12 @@ use Rattle.wire.proofs.Numbers.{length-leBytes, leAt-append, leAt-leByt
 pub sets-append : (s : List ℕ) (p : ℕ) (a b : List ℕ) → sets s p (a ++ b) ≡ sets (sets s p a) (p + length a) b
 sets-append s p [] b = rw add-zero
 sets-append s p (x ∷ a) b = rw (add-suc, sets-append (set s p x) (suc p) a b, suc-add)
+
+-- the front of what was stored at the front
+pub front-stored : (s vs : List ℕ) (n : ℕ) → length vs ≡ n → n ≤ length s → take n (sets s 0 vs) ≡ vs
+front-stored s vs n e h =
+    let l : 0 + length vs ≤ length s = omega arith in
+    rw (sets-eq vs s 0 l, ← e) (take-append-seam vs (drop (0 + length vs) s))
 
 -- a store past the end is none
 pub sets-past : (vs s : List ℕ) (p : ℕ) → length s ≤ p → sets s p vs ≡ s

@@ -1,12 +1,15 @@
 //! The library and the second receiver on the same random runs, compared after each call: number, taken, written, order, every byte of
-//! the buffer, the state.
+//! the buffer, the state. The library's host and the second one write the runs' requests and read every reply, and are compared too: length
+//! or refusal, every byte of the buffer, the answer. The readers also get bytes that no board sends.
 //!
 //!     compare [--seed N] [--units N] [--break NAME|all] [--show]
 
-use rivertosku::board::{Board, Number, Parts};
+use rivertosku::board::{Board, Number, Order, Parts};
 use rivertosku::frames::{self, Random};
+use rivertosku::host::{Answer, ReadRefusal};
 use rivertosku::same;
 use rivertosku::second::{Fault, Second};
+use rivertosku::second_host::Request;
 use std::process::ExitCode;
 
 /// A change of the state by hand before a step. All but `Spare` are taken back behind it.
@@ -44,11 +47,39 @@ struct Counts {
     calls: usize,
     numbers: [usize; 4],
     bytes: usize,
+    /// Requests written, and those refused by 3 and 4.
+    written: usize,
+    unwritten: [usize; 2],
+    /// Answers read, and slices refused by 5 to 8.
+    read: usize,
+    unread: [usize; 4],
+}
+
+impl Counts {
+    fn call(&mut self, number: Number, taken: usize, units: usize) {
+        self.calls += 1;
+        self.units += units;
+        self.numbers[number as usize] += 1;
+        self.bytes += taken;
+    }
 }
 
 struct Miss {
     step: usize,
     text: String,
+}
+
+/// What the two disagreed on.
+enum Failed {
+    Run(Box<Run>),
+    /// A request or a slice, in words.
+    Host(String),
+}
+
+impl From<String> for Failed {
+    fn from(text: String) -> Failed {
+        Failed::Host(text)
+    }
 }
 
 impl Change {
@@ -76,21 +107,49 @@ fn hex(bytes: &[u8]) -> String {
     }
 }
 
-/// Counts a call's units by their answers.
-fn count_kinds(mut reply: &[u8], ordered: bool, kinds: &mut [usize; 7]) {
-    while !reply.is_empty() {
-        let (kind, length) = match reply {
-            [0, ..] => (0, 1),
-            [b'e', b'r', b'r', b'c', ..] => (1, 4),
-            [b'e', b'r', b'r', b'd', ..] => (5, 4),
-            [b'e', b'r', b'r', b'v', ..] => (6, 4),
-            [b'g', block @ ..] => (2, frames::total(block)),
-            _ if ordered && reply.len() == 4 => (3, 4),
-            _ => (4, 4),
-        };
-        kinds[kind] += 1;
-        reply = &reply[length..];
+/// Where `Counts::kinds` counts an answer.
+fn kind(answer: &Answer) -> usize {
+    match answer {
+        Answer::Zero => 0,
+        Answer::Errc => 1,
+        Answer::Data(_) => 2,
+        Answer::OrderEcho(_) => 3,
+        Answer::SetEcho(_) => 4,
+        Answer::Errd => 5,
+        Answer::Errv => 6,
     }
+}
+
+/// Both hosts read the front of the bytes.
+fn read(bytes: &[u8], fault: Fault, counts: &mut Counts) -> Result<Result<(Answer, usize), ReadRefusal>, String> {
+    let said = same::read(bytes, fault)?;
+    match said {
+        Ok(_) => counts.read += 1,
+        Err(refusal) => counts.unread[refusal as usize - 5] += 1,
+    }
+    Ok(said)
+}
+
+/// Reads a reply to its last byte, answer after answer; what differs, is refused, or echoes another order than the call's.
+fn read_reply(reply: &[u8], order: Option<Order>, fault: Fault, counts: &mut Counts) -> Result<(), String> {
+    let mut echoed = vec![];
+    let mut left = reply;
+    while !left.is_empty() {
+        match read(left, fault, counts)? {
+            Ok((answer, length)) => {
+                counts.kinds[kind(&answer)] += 1;
+                if let Answer::OrderEcho(order) = answer {
+                    echoed.push(order);
+                }
+                left = &left[length..];
+            }
+            Err(refusal) => return Err(format!("reply {}: its last {} bytes are refused, {refusal:?}", hex(reply), left.len())),
+        }
+    }
+    if !echoed.iter().eq(&order) {
+        return Err(format!("order {order:?}, but echoed {echoed:?}"));
+    }
+    Ok(())
 }
 
 const BUFFER: usize = 320;
@@ -106,26 +165,21 @@ fn call(
     counts: &mut Counts,
 ) -> Result<(usize, bool), String> {
     // The buffer goes on behind the room, to see that nothing is written there.
-    let salt = counts.calls as u8;
-    let filled: [u8; BUFFER] = std::array::from_fn(|i| (i as u8).wrapping_mul(31).wrapping_add(salt) | 1);
-    let (mut ours, mut theirs) = (filled, filled);
+    let (mut ours, mut theirs) = same::buffers::<BUFFER>(counts.calls);
     let before = *board.parts();
 
     let answer = board.receive(piece, stamp, &mut ours[..room]);
     let number = answer.number;
     let taken = answer.taken;
-    let a = (number as u8, taken, answer.reply.len(), answer.order.map_or(0, |o| o as u8));
+    let order = answer.order;
+    let a = (number as u8, taken, answer.reply.len(), order.map_or(0, |o| o as u8));
     let out = match fault {
         Fault::None => second.call(piece, stamp, &mut theirs[..room]),
         _ => second.broken_call(fault, piece, stamp, &mut theirs[..room]),
     };
     let b = (out.number, out.taken, out.written, out.order);
 
-    counts.calls += 1;
-    counts.units += out.units;
-    counts.numbers[number as usize] += 1;
-    counts.bytes += taken;
-
+    counts.call(number, taken, out.units);
     if a != b {
         return Err(format!("number, taken, written, order: library {a:?}, second {b:?}"));
     }
@@ -135,15 +189,20 @@ fn call(
     if let Some(text) = same::difference(board, second) {
         return Err(text);
     }
-    count_kinds(&ours[..a.2], a.3 != 0, &mut counts.kinds);
-    // The library's record besides: the very same if nothing is taken, else zeros behind the unfinished bytes.
-    if taken == 0 && *board.parts() != before {
-        return Err(format!("nothing is taken, the record changes: {before:?} to {:?}", board.parts()));
-    }
-    if taken > 0 && board.parts().held[board.parts().count..].iter().any(|&byte| byte != 0) {
-        return Err(format!("spare bytes: {:?}", board.parts().held));
-    }
+    read_reply(&ours[..a.2], order, fault, counts)?;
+    kept(&before, board.parts(), taken)?;
     Ok((taken, number == Number::Accepted))
+}
+
+/// The library's record besides: the very same if nothing is taken, else zeros behind the unfinished bytes.
+fn kept(before: &Parts, parts: &Parts, taken: usize) -> Result<(), String> {
+    if taken == 0 && parts != before {
+        return Err(format!("nothing is taken, the record changes: {before:?} to {parts:?}"));
+    }
+    if taken > 0 && parts.held[parts.count..].iter().any(|&byte| byte != 0) {
+        return Err(format!("spare bytes: {:?}", parts.held));
+    }
+    Ok(())
 }
 
 fn play(run: &Run, fault: Fault, counts: &mut Counts) -> Result<(), Miss> {
@@ -188,16 +247,54 @@ fn play(run: &Run, fault: Fault, counts: &mut Counts) -> Result<(), Miss> {
     Ok(())
 }
 
-/// A run's bytes: units of every kind, whole or in part.
-fn bytes(random: &mut Random) -> Vec<Vec<u8>> {
+/// A get, an order, or a set: fields in range, at its edges or out of it, or zeros.
+fn request(random: &mut Random) -> Request {
+    let number = frames::any_block(random);
+    match random.below(40) {
+        0..=15 => Request::Get(number),
+        16..=23 => Request::Order(1 + random.below(7)),
+        24..=28 => Request::Set(number, frames::zero_data(random, number)),
+        _ => {
+            let wrong = random.pick(&[0, 0, 0, 0, 1, 2]);
+            Request::Set(number, frames::data(random, number, wrong))
+        }
+    }
+}
+
+/// The frame of a request, out of a buffer too short, as long as the frame, or longer. Those that are refused are compared and left.
+fn requested(random: &mut Random, fault: Fault, counts: &mut Counts) -> Result<Vec<u8>, String> {
+    loop {
+        let request = request(random);
+        let length = match &request {
+            Request::Set(number, _) => frames::row(*number).total(),
+            Request::Get(_) | Request::Order(_) => 4,
+        };
+        let room = match random.below(10) {
+            0 => random.below(length),
+            1 => length - 1,
+            2..=4 => length,
+            5 => length + 1,
+            _ => length + random.below(20),
+        };
+        match same::write(&request, room, fault, counts.written)? {
+            Ok(frame) => {
+                counts.written += 1;
+                return Ok(frame);
+            }
+            Err(refusal) => counts.unwritten[refusal as usize - 3] += 1,
+        }
+    }
+}
+
+/// A run's bytes: units of every kind, whole or in part. Those that no host writes, as sets with reserved bytes, are made without one.
+fn bytes(random: &mut Random, fault: Fault, counts: &mut Counts) -> Result<Vec<Vec<u8>>, String> {
     let units = 1 + random.below(12);
     let mut all = vec![];
     for _ in 0..units {
         let mut unit = match random.below(100) {
             0..=7 => vec![0; 1 + random.below(3)],
-            8..=25 => frames::get(random),
-            26..=35 => frames::order(random),
-            36..=53 => frames::good_set(random),
+            8..=48 => requested(random, fault, counts)?,
+            49..=53 => frames::good_set(random),
             54..=61 => frames::zero_set(random),
             62..=74 => frames::bad_set(random),
             75..=85 => frames::damaged_set(random),
@@ -211,7 +308,7 @@ fn bytes(random: &mut Random) -> Vec<Vec<u8>> {
         }
         all.push(unit);
     }
-    all
+    Ok(all)
 }
 
 fn cut(random: &mut Random, units: Vec<Vec<u8>>) -> Vec<Vec<u8>> {
@@ -319,8 +416,32 @@ fn sound(random: &mut Random) -> (Parts, Vec<u8>) {
     (parts, rest.to_vec())
 }
 
-fn random_run(random: &mut Random) -> Run {
-    let mut all = bytes(random);
+/// Calls aside, which take nothing.
+fn aside(random: &mut Random, piece: &[u8], stamp: u32) -> Step {
+    let mut aside = Step { change: None, piece: piece.to_vec(), stamp: later(random, stamp, false), room: room(random) };
+    match random.below(6) {
+        0 => aside.piece.clear(),
+        1 => aside.room = if random.percent(50) { 47 } else { random.below(48) },
+        2 => aside.piece.resize(251 + random.below(10), b's'),
+        3 => {
+            aside.room = 47;
+            aside.piece.resize(251, 0);
+        }
+        4 => aside.change = Some(change(random)),
+        _ => {
+            aside.change = Some(change(random));
+            aside.room = random.pick(&[47, 48]);
+        }
+    }
+    if let Some(Change::Spare(_)) = aside.change {
+        // Spare bytes stay: nothing is to be lost by the call.
+        aside.piece.clear();
+    }
+    aside
+}
+
+fn random_run(random: &mut Random, fault: Fault, counts: &mut Counts) -> Result<Run, String> {
+    let mut all = bytes(random, fault, counts)?;
     let mut start = None;
     if random.percent(30) {
         let (parts, rest) = sound(random);
@@ -339,33 +460,30 @@ fn random_run(random: &mut Random) -> Run {
     };
     let mut steps = vec![];
     for piece in cut(random, all) {
-        // Calls aside, which take nothing.
         if random.percent(12) {
-            let mut aside = Step { change: None, piece: piece.clone(), stamp: later(random, stamp, false), room: room(random) };
-            match random.below(6) {
-                0 => aside.piece.clear(),
-                1 => aside.room = if random.percent(50) { 47 } else { random.below(48) },
-                2 => aside.piece.resize(251 + random.below(10), b's'),
-                3 => {
-                    aside.room = 47;
-                    aside.piece.resize(251, 0);
-                }
-                4 => aside.change = Some(change(random)),
-                _ => {
-                    aside.change = Some(change(random));
-                    aside.room = random.pick(&[47, 48]);
-                }
-            }
-            if let Some(Change::Spare(_)) = aside.change {
-                // Spare bytes stay: nothing is to be lost by the call.
-                aside.piece.clear();
-            }
-            steps.push(aside);
+            steps.push(aside(random, &piece, stamp));
         }
         steps.push(Step { change: None, piece, stamp, room: room(random) });
         stamp = later(random, stamp, calm);
     }
-    Run { start, steps }
+    Ok(Run { start, steps })
+}
+
+/// Both readers on what no board need send: an answer cut at every length, or several joined, up to the first that is refused.
+fn read_alone(random: &mut Random, fault: Fault, counts: &mut Counts) -> Result<(), String> {
+    if random.percent(20) {
+        let answer = frames::answer(random);
+        for length in 0..=answer.len() {
+            let _ = read(&answer[..length], fault, counts)?;
+        }
+        return Ok(());
+    }
+    let joined = (0..1 + random.below(4)).flat_map(|_| frames::answer(random)).collect::<Vec<u8>>();
+    let mut left = &joined[..];
+    while let Ok((_, length)) = read(left, fault, counts)? {
+        left = &left[length..];
+    }
+    Ok(())
 }
 
 /// The shortest failing run that dropping calls and bytes leads to.
@@ -425,91 +543,126 @@ fn show(run: &Run, miss: &Miss) {
     println!("  {}", miss.text);
 }
 
+fn round(random: &mut Random, fault: Fault, counts: &mut Counts) -> Result<(), Failed> {
+    let run = random_run(random, fault, counts)?;
+    if play(&run, fault, counts).is_err() {
+        return Err(Failed::Run(Box::new(run)));
+    }
+    Ok(read_alone(random, fault, counts)?)
+}
+
 /// Runs until a disagreement or until so many units are counted.
-fn compare(seed: u64, units: usize, fault: Fault) -> (Counts, Option<Run>) {
+fn compare(seed: u64, units: usize, fault: Fault) -> (Counts, Result<(), Failed>) {
     let mut random = Random(seed);
     let mut counts = Counts::default();
     while counts.units < units && counts.runs < units {
-        let run = random_run(&mut random);
-        if play(&run, fault, &mut counts).is_err() {
-            return (counts, Some(run));
+        if let Err(failed) = round(&mut random, fault, &mut counts) {
+            return (counts, Err(failed));
         }
     }
-    (counts, None)
+    (counts, Ok(()))
 }
 
-fn main() -> ExitCode {
-    let mut seed = 20_240_607;
-    let mut units = 2_000_000;
-    let mut broken: Option<String> = None;
-    let mut shown = false;
-    let mut args = std::env::args().skip(1);
-    while let Some(arg) = args.next() {
-        let mut value = || args.next().unwrap_or_default();
-        let read = match arg.as_str() {
-            "--seed" => value().parse().map(|n| seed = n).is_ok(),
-            "--units" => value().parse().map(|n| units = n).is_ok(),
-            "--break" => {
-                broken = Some(value());
-                true
-            }
-            "--show" => {
-                shown = true;
-                true
-            }
-            _ => false,
-        };
-        if !read {
-            eprintln!("usage: compare [--seed N] [--units N] [--break NAME|all] [--show]");
-            return ExitCode::from(2);
+fn report(failed: Failed, fault: Fault) {
+    match failed {
+        Failed::Run(run) => {
+            let (run, miss) = shortest(*run, fault);
+            show(&run, &miss);
         }
+        Failed::Host(text) => println!("  {text}"),
     }
+}
 
-    if let Some(name) = broken {
-        let faults: Vec<Fault> = Fault::ALL.iter().copied().filter(|f| name == "all" || f.name() == name).collect();
-        if faults.is_empty() {
-            eprintln!("no fault named {name}; there are:");
-            Fault::ALL.iter().for_each(|f| eprintln!("  {}", f.name()));
-            return ExitCode::from(2);
-        }
-        let mut all_caught = true;
-        for fault in faults {
-            match compare(seed, units, fault) {
-                (counts, Some(run)) => {
-                    println!("caught {} after {} units", fault.name(), counts.units);
-                    if shown {
-                        let (run, miss) = shortest(run, fault);
-                        show(&run, &miss);
-                    }
-                }
-                (counts, None) => {
-                    println!("not caught {} in {} units", fault.name(), counts.units);
-                    all_caught = false;
+/// Compares with receivers and hosts that are wrong, each to be caught.
+fn catch(name: &str, seed: u64, units: usize, shown: bool) -> ExitCode {
+    let faults: Vec<Fault> = Fault::ALL.iter().copied().filter(|f| name == "all" || f.name() == name).collect();
+    if faults.is_empty() {
+        eprintln!("no fault named {name}; there are:");
+        Fault::ALL.iter().for_each(|f| eprintln!("  {}", f.name()));
+        return ExitCode::from(2);
+    }
+    let mut all_caught = true;
+    for fault in faults {
+        match compare(seed, units, fault) {
+            (counts, Err(failed)) => {
+                println!("caught {} after {} units", fault.name(), counts.units);
+                if shown {
+                    report(failed, fault);
                 }
             }
+            (counts, Ok(())) => {
+                println!("not caught {} in {} units", fault.name(), counts.units);
+                all_caught = false;
+            }
         }
-        return if all_caught { ExitCode::SUCCESS } else { ExitCode::FAILURE };
     }
+    if all_caught {
+        ExitCode::SUCCESS
+    } else {
+        ExitCode::FAILURE
+    }
+}
 
-    let (counts, failed) = compare(seed, units, Fault::None);
+fn summary(counts: &Counts, seed: u64) {
     let [_, one, two, three] = counts.numbers;
     let [zero, errc, get, order, set, errd, errv] = counts.kinds;
+    let [out_of_range, too_short] = counts.unwritten;
+    let [no_name, no_answer, cut, damaged] = counts.unread;
     println!(
         "compared {} units ({set} sets, {get} gets, {order} orders, {errv} errv, {errd} errd, {errc} errc, {zero} zeros) in {} runs, \
-         {} calls of which {} refused ({one} by 1, {two} by 2, {three} by 3), {} bytes, seed {seed}",
+         {} calls of which {} refused ({one} by 1, {two} by 2, {three} by 3), {} bytes, {} requests written and {} refused \
+         ({out_of_range} by 3, {too_short} by 4), {} answers read and {} refused ({no_name} by 5, {no_answer} by 6, {cut} by 7, \
+         {damaged} by 8), seed {seed}",
         counts.units,
         counts.runs,
         counts.calls,
         one + two + three,
-        counts.bytes
+        counts.bytes,
+        counts.written,
+        out_of_range + too_short,
+        counts.read,
+        no_name + no_answer + cut + damaged,
     );
-    match failed {
-        Some(run) => {
-            let (run, miss) = shortest(run, Fault::None);
+}
+
+struct Options {
+    seed: u64,
+    units: usize,
+    broken: Option<String>,
+    shown: bool,
+}
+
+fn options() -> Option<Options> {
+    let mut options = Options { seed: 20_240_607, units: 2_000_000, broken: None, shown: false };
+    let mut args = std::env::args().skip(1);
+    while let Some(arg) = args.next() {
+        match arg.as_str() {
+            "--seed" => options.seed = args.next()?.parse().ok()?,
+            "--units" => options.units = args.next()?.parse().ok()?,
+            "--break" => options.broken = Some(args.next()?),
+            "--show" => options.shown = true,
+            _ => return None,
+        }
+    }
+    Some(options)
+}
+
+fn main() -> ExitCode {
+    let Some(Options { seed, units, broken, shown }) = options() else {
+        eprintln!("usage: compare [--seed N] [--units N] [--break NAME|all] [--show]");
+        return ExitCode::from(2);
+    };
+    if let Some(name) = broken {
+        return catch(&name, seed, units, shown);
+    }
+    let (counts, said) = compare(seed, units, Fault::None);
+    summary(&counts, seed);
+    match said {
+        Err(failed) => {
             println!("the two disagree, at the shortest on:");
-            show(&run, &miss);
+            report(failed, Fault::None);
             ExitCode::FAILURE
         }
-        None => ExitCode::SUCCESS,
+        Ok(()) => ExitCode::SUCCESS,
     }
 }

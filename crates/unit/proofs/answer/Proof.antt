@@ -69,6 +69,7 @@ answer-spec =
     (λ c. search needs)
     returns-3
     (λ c. search needs)
+    (λ c. search needs)
     (λ c κs. search needs)
     (λ c κs. search needs)
     (λ c κs. search needs)

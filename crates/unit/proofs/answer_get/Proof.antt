@@ -1,5 +1,5 @@
 -- `unit::answer_get` meets its contract. Assumes nothing.
-use mathlib.Core.Path.{refl, sym, _∙_}
+use mathlib.Core.Path.{refl, sym}
 use lib.Seq.{length-take-le}
 use borrow.Author.Needs.{needs}
 use Rattle.unit.specs.Unit.{memory}
@@ -10,44 +10,26 @@ use Rattle.unit.proofs.answer_get.Tie as tie
 
 array-share-prefix-section : tie.Need-array-share-prefix-section
 array-share-prefix-section c =
-    let t = c .before .before .before .before .before in
+    let t = c .before in
     let g = t .before .before in
     let a = g .before .before .before .args in
     section-room (memory (a .settings) (a .notes)) (a .k) _ (t .total-of .ensures) _ _ refl (g .get .ensures)
 
-slice-aggregate-copy : tie.Need-slice-aggregate-copy
-slice-aggregate-copy c =
-    let t = c .before .before .before .before .before .before in
-    let g = t .before .before in
-    let a = g .before .before .before .args in
-    sym (length-take-le _ _ (section-room (memory (a .settings) (a .notes)) (a .k) _ (t .total-of .ensures) _ _ refl (g .get .ensures)))
-
-array-share-prefix-section-2 : tie.Need-array-share-prefix-section-2
-array-share-prefix-section-2 c =
-    let t = c .before .before .before .before .before .before .before .before .before .before in
-    let g = t .before .before in
-    let a = g .before .before .before .args in
-    section-room (memory (a .settings) (a .notes)) (a .k) _ (t .total-of .ensures) _ _ refl (g .get .ensures)
-
-slice-aggregate-crc : tie.Need-slice-aggregate-crc
-slice-aggregate-crc c =
-    let t = c .before .before .before .before .before .before .before .before .before .before .before in
+slice-aggregate-put : tie.Need-slice-aggregate-put
+slice-aggregate-put c =
+    let t = c .before .before in
     let g = t .before .before in
     let a = g .before .before .before .args in
     sym (length-take-le _ _ (section-room (memory (a .settings) (a .notes)) (a .k) _ (t .total-of .ensures) _ _ refl (g .get .ensures)))
 
 returns : tie.Need-returns
 returns r =
-    let c = r .before in
-    let crc = c .before .before .before in
-    let copy = crc .before .before .before .before .before in
-    let put = copy .before .before .before .before .before in
-    let t = put .before .before in
+    let put = r .before .before .before in
+    let t = put .before .before .before in
     let g = t .before .before in
     let a = g .before .before .before .args in
     answered-as (r .no-order .ensures)
-    (says-got (memory (a .settings) (a .notes)) (a .k) _ (t .total-of .ensures) _ _ refl (g .get .ensures) (a .name) _ _ _ _ _
-    (put .put .ensures) (copy .copy .ensures) (c .before .before .put2 .ensures) (crc .crc .ensures))
+    (says-got (memory (a .settings) (a .notes)) (a .k) _ (t .total-of .ensures) _ _ refl (g .get .ensures) (a .name) _ _ (put .put .ensures))
 
 pub answer-get-spec : {M : Type 1} → statement M
 answer-get-spec =
@@ -57,16 +39,9 @@ answer-get-spec =
     (λ c κs. search needs)
     (λ c κs. search needs)
     (λ c. search needs)
-    (λ c κs. search needs)
     array-share-prefix-section
-    slice-aggregate-copy
+    slice-aggregate-put
+    (λ c κs. search needs)
     (λ c κs. search needs)
     (λ c. search needs)
-    array-share-prefix-section-2
-    slice-aggregate-crc
-    (λ c κs. search needs)
-    (λ c. search needs)
-    (λ c κs. search needs)
-    (λ c κs. search needs)
-    (λ c. c .before .before .before .put2 .kept .0 ∙ c .before .before .before .before .before .before .before .before .before .copy .kept .0 ∙ c .before .before .before .before .before .before .before .before .before .before .before .before .before .before .put .kept .0)
     returns)

@@ -6,8 +6,9 @@ use lib.Seq.{sets}
 use borrow.Author.Needs.{needs}
 use borrow.Author.Tests.{not-true, not-false}
 use Rattle.wire.specs.Numbers.{leBytes}
+use Rattle.frame.proofs.Frames.{intact-long}
 use Rattle.unit.specs.Unit.{memory}
-use Rattle.unit.proofs.Sets.{answered-as, intact-long, next-is, found-is, says-damaged, says-refused, says-stored}
+use Rattle.unit.proofs.Sets.{answered-as, next-is, found-is, says-damaged, says-refused, says-stored}
 use Rattle.unit.proofs.answer_set.Statement.{statement}
 use Rattle.unit.proofs.answer_set.Tie as tie
 
@@ -68,6 +69,7 @@ answer-set-spec =
     tie.close
     (tie.spec
     (λ c κs. search needs)
+    (λ c. search needs)
     (λ c κs. search needs)
     (λ c κs. search needs)
     (λ c κs. search needs)
@@ -79,6 +81,7 @@ answer-set-spec =
     (λ c. search needs)
     (λ c κs. search needs)
     (λ c κs. search needs)
+    (λ c. search needs)
     (λ c κs. search needs)
     (λ c κs. search needs)
     (λ c. search needs)

@@ -1,9 +1,9 @@
--- `frames::hexadecimal` is safe and ends. Assumes nothing.
+-- `frames::print::hexadecimal` is safe and ends. Assumes nothing.
 use Prim.Native.Nat.{_≤_, _-_}
 use native.Mathlib.Omega.{arith}
 use borrow.Author.Needs.{needs}
-use Rattle.frames.proofs.hexadecimal.Statement.{statement}
-use Rattle.frames.proofs.hexadecimal.Tie as tie
+use Rattle.frames.proofs.print.hexadecimal.Statement.{statement}
+use Rattle.frames.proofs.print.hexadecimal.Tie as tie
 
 abbrev Inv-loop : tie.InvT-loop
 Inv-loop part n end k₀ k = k ≤ end

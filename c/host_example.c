@@ -1,0 +1,98 @@
+/* The optimiser's loop: requests out as frames, answers in. At the line's other end stands the library's own board. */
+#include "rivertosku.h"
+
+#include <stdio.h>
+
+static void tell_refusals(const struct rivertosku_settings *good)
+{
+    uint8_t frame[RIVERTOSKU_FRAME];
+    struct rivertosku_settings bad = *good;
+    bad.mov.accel = 0;
+    printf("accel 0: %u\n", (unsigned)rivertosku_write_set(RIVERTOSKU_MOV, bad, frame, sizeof frame).number);
+    printf("room for 29 bytes: %u\n", (unsigned)rivertosku_write_set(RIVERTOSKU_MOV, *good, frame, 29).number);
+    printf("block 8: %u\n", (unsigned)rivertosku_write_get(8, frame, sizeof frame).number);
+
+    /* 5 and 7 ask for more bytes; behind 6 and 8 the line has to be brought into step again. */
+    const uint8_t damaged[25] = {'g', 'b', 'r', 'k', 0xFE, 0xFF};
+    printf("three bytes: %u\n", (unsigned)rivertosku_read((const uint8_t *)"err", 3).number);
+    printf("errx: %u\n", (unsigned)rivertosku_read((const uint8_t *)"errx", 4).number);
+    printf("data cut short: %u\n", (unsigned)rivertosku_read(damaged, sizeof damaged - 1).number);
+    printf("data damaged: %u\n", (unsigned)rivertosku_read(damaged, sizeof damaged).number);
+}
+
+static void tell(const struct rivertosku_reading *reading)
+{
+    const struct rivertosku_mov *mov = &reading->settings.mov;
+    switch (reading->kind) {
+    case RIVERTOSKU_ZERO:
+        printf("zero\n");
+        break;
+    case RIVERTOSKU_SET_ECHO:
+        printf("set of block %u done\n", (unsigned)reading->what);
+        break;
+    case RIVERTOSKU_ORDER_ECHO:
+        printf("order %u given\n", (unsigned)reading->what);
+        break;
+    case RIVERTOSKU_DATA:
+        printf("data of block %u: speed %lu %u, accel %u, decel %u, antiplay speed %lu %u\n", (unsigned)reading->what,
+               (unsigned long)mov->speed, (unsigned)mov->u_speed, (unsigned)mov->accel, (unsigned)mov->decel,
+               (unsigned long)mov->antiplay_speed, (unsigned)mov->u_antiplay_speed);
+        break;
+    case RIVERTOSKU_ERRC:
+        printf("errc\n");
+        break;
+    case RIVERTOSKU_ERRD:
+        printf("errd\n");
+        break;
+    case RIVERTOSKU_ERRV:
+        printf("errv\n");
+        break;
+    }
+}
+
+/* Sends bytes over the line and tells every answer that comes back. */
+static void send_bytes(struct rivertosku_board *board, const uint8_t *bytes, size_t length)
+{
+    printf("send ");
+    for (size_t i = 0; i < length; i++) {
+        printf("%02x", (unsigned)bytes[i]);
+    }
+    printf("\n");
+
+    uint8_t reply[RIVERTOSKU_ROOM];
+    struct rivertosku_answer call = rivertosku_receive(*board, bytes, length, 1000, reply, sizeof reply);
+    *board = call.board;
+    for (size_t at = 0; at < call.written;) {
+        struct rivertosku_reading reading = rivertosku_read(reply + at, call.written - at);
+        if (reading.number != RIVERTOSKU_READ) {
+            printf("not read: %u\n", (unsigned)reading.number);
+            return;
+        }
+        tell(&reading);
+        at += reading.length;
+    }
+}
+
+static void ask(struct rivertosku_board *board, const uint8_t *frame, struct rivertosku_written written)
+{
+    if (written.number != RIVERTOSKU_WRITTEN) {
+        printf("not written: %u\n", (unsigned)written.number);
+        return;
+    }
+    send_bytes(board, frame, written.length);
+}
+
+int main(void)
+{
+    struct rivertosku_board board = rivertosku_fresh();
+    uint8_t frame[RIVERTOSKU_FRAME];
+    struct rivertosku_settings wanted = {.mov = {.speed = 100000, .u_speed = 7, .accel = 2000, .decel = 3000, .antiplay_speed = 50}};
+
+    ask(&board, frame, rivertosku_write_set(RIVERTOSKU_MOV, wanted, frame, sizeof frame));
+    ask(&board, frame, rivertosku_write_get(RIVERTOSKU_MOV, frame, sizeof frame));
+    ask(&board, frame, rivertosku_write_order(RIVERTOSKU_LEFT, frame, sizeof frame));
+    /* A name that no board knows, and a zero: two answers in one reply. */
+    send_bytes(&board, (const uint8_t *)"xxxx", 5);
+    tell_refusals(&wanted);
+    return 0;
+}

@@ -1,0 +1,60 @@
+-- The writer's three answers. Assumes nothing.
+use mathlib.Core.Path.{_≡_, refl, ap}
+use mathlib.Core.Bool.{Bool, true, false, cond}
+use mathlib.Core.List.{List}
+use Prim.Native.Nat.{ℕ, _≤_, _<_}
+use native.Mathlib.Omega.{arith}
+use lib.Dec.{eqb, ltb}
+use lib.ListN.{length}
+use lib.Seq.{sets}
+use borrow.Author.Tests.{eq-eqb, ne-eqb, lt-ltb, le-ltb, eqb-true, ltb-false}
+use Rattle.host.specs.Request.{refused, told, writes, Writes}
+use Rattle.host.specs.declared.request.Written.{Written}
+use Rattle.host.specs.declared.request.Written.the-variants.{Frame, OutOfRange, TooShort}
+
+module _ (bad : ℕ) (u before : List ℕ) where
+  pub says-out-of-range : (bad ≡ 0 → ⊥) → Writes bad u before OutOfRange before
+  unfolding writes
+  says-out-of-range h = record { answer = rw (ne-eqb bad 0 h); buffer = rw (ne-eqb bad 0 h) }
+
+  pub says-too-short : bad ≡ 0 → length before < length u → Writes bad u before TooShort before
+  unfolding writes
+  says-too-short z h = record { answer = rw (eq-eqb bad 0 z, lt-ltb (length before) (length u) h); buffer = rw (eq-eqb bad 0 z, lt-ltb (length before) (length u) h) }
+
+  pub says-frame : (n : ℕ) (after : List ℕ) → bad ≡ 0 → length u ≤ length before → n ≡ length u → after ≡ sets before 0 u → Writes bad u before (Frame n) after
+  unfolding writes
+  says-frame n after z h e s =
+      record {
+        answer = rw (eq-eqb bad 0 z, le-ltb (length before) (length u) h) (ap (λ (k : ℕ). record { number = 0; length = k }) e);
+        buffer = rw (eq-eqb bad 0 z, le-ltb (length before) (length u) h) s;
+      }
+
+-- what stands behind the number 0
+module _ (bad : ℕ) (u : List ℕ) where
+  pub record Framed (room : ℕ) : Type 0 where
+    pub good : bad ≡ 0
+    pub fits : length u ≤ room
+    pub long : writes bad u room .length ≡ length u
+
+  pub wrote-frame : (room : ℕ) → writes bad u room .number ≡ 0 → Framed room
+  unfolding writes
+  wrote-frame room z = by-value (eqb bad 0) refl z
+    where
+      by-room : (y : Bool) → ltb room (length u) ≡ y → eqb bad 0 ≡ true → cond y (refused 4) (record { number = 0; length = length u }) .number ≡ 0 → Framed room
+      by-room true e g n = absurd (omega arith)
+      by-room false e g n =
+          record { good = eqb-true bad 0 g; fits = ltb-false room (length u) e; long = rw (g, e) }
+
+      by-value : (y : Bool) → eqb bad 0 ≡ y → cond y (cond (ltb room (length u)) (refused 4) (record { number = 0; length = length u })) (refused 3) .number ≡ 0 → Framed room
+      by-value true e n = by-room (ltb room (length u)) refl e n
+      by-value false e n = absurd (omega arith)
+
+-- every request gets an answer
+pub writes-told : (bad : ℕ) (u : List ℕ) (room : ℕ) → (w : Written) × (told w ≡ writes bad u room)
+unfolding writes
+writes-told bad u room = by (eqb bad 0) (ltb room (length u))
+  where
+    by : (y z : Bool) → (w : Written) × (told w ≡ cond y (cond z (refused 4) (record { number = 0; length = length u })) (refused 3))
+    by true true = (TooShort, refl)
+    by true false = (Frame (length u), refl)
+    by false z = (OutOfRange, refl)

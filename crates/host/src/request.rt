@@ -1,0 +1,72 @@
+// What the optimiser can ask, and its frame.
+use crate::fields;
+use crate::fields::Fields;
+use crate::names;
+use crate::names::Block;
+use crate::names::Order;
+ghost use Rattle.wire.specs.Numbers.{leBytes};
+ghost use Rattle.host.specs.Fields.{firstBadOf};
+ghost use Rattle.host.specs.Request.{frame, setFrame, badIn, Writes};
+
+// No request has an invalid name.
+pub enum Request {
+    Get(Block),
+    Set(Fields),
+    Give(Order),
+}
+
+// The frame's length; or 3, a value that the board would refuse; or 4, a buffer shorter than the frame.
+pub enum Written {
+    Frame(usize),
+    OutOfRange,
+    TooShort,
+}
+
+// A frame that is a name only.
+fn write_name(name: u32, out: &mut [u8]) -> Written
+    ensures { λ r. ⌜ Writes 0 (leBytes 4 name) (now (out .entry)) r (now (out .exit)) ⌝ }
+{
+    if out.len() < 4 {
+        return Written::TooShort;
+    }
+    wire::put(out, 0, 4, name as u64);
+    Written::Frame(4)
+}
+
+// A set's frame. The data section is laid out aside, so that its CRC is taken of what is sent.
+fn write_set(set: Fields, out: &mut [u8]) -> Written
+    ensures { λ r. ⌜ Writes (firstBadOf set) (setFrame set) (now (out .entry)) r (now (out .exit)) ⌝ }
+{
+    let bad = fields::first_bad(set);
+    if 0 < bad {
+        return Written::OutOfRange;
+    }
+    let head = names::head_of(fields::block_of(set));
+    let total = head.total;
+    if out.len() < total {
+        return Written::TooShort;
+    }
+    let mut section = [0u8; 48];
+    fields::encode(set, &mut section);
+    let n = total - 6;
+    frame::put(out, head.set, &section[..n]);
+    Written::Frame(total)
+}
+
+// A request's frame at the front of a lent buffer. A refusal writes nothing, and every byte past the frame is kept.
+pub fn write(request: Request, out: &mut [u8]) -> Written
+    ensures { λ r. ⌜ Writes (badIn request) (frame request) (now (out .entry)) r (now (out .exit)) ⌝ }
+{
+    match request {
+        Request::Get(block) => {
+            let head = names::head_of(block);
+            return write_name(head.get, out);
+        }
+        Request::Set(set) => {
+            return write_set(set, out);
+        }
+        Request::Give(order) => {
+            return write_name(names::order_name(order), out);
+        }
+    }
+}

@@ -1,0 +1,4 @@
+pub mod Alone
+pub mod Requests
+pub mod Sessions
+pub mod Cuttings
