@@ -1,14 +1,15 @@
 -- The writer's three answers. Assumes nothing.
-use mathlib.Core.Path.{_≡_, refl, ap}
+use mathlib.Core.Path.{_≡_, refl, sym, ap, _∙_}
 use mathlib.Core.Bool.{Bool, true, false, cond}
 use mathlib.Core.List.{List}
 use Prim.Native.Nat.{ℕ, _≤_, _<_}
 use native.Mathlib.Omega.{arith}
 use lib.Dec.{eqb, ltb}
-use lib.ListN.{length}
+use lib.ListN.{length, drop}
 use lib.Seq.{sets}
 use borrow.Author.Tests.{eq-eqb, ne-eqb, lt-ltb, le-ltb, eqb-true, ltb-false}
-use Rattle.host.specs.Request.{refused, told, writes, Writes}
+use Rattle.wire.proofs.Stores.{past-stored}
+use Rattle.host.specs.Request.{Wrote, refused, told, writes, Writes}
 use Rattle.host.specs.declared.request.Written.{Written}
 use Rattle.host.specs.declared.request.Written.the-variants.{Frame, OutOfRange, TooShort}
 
@@ -48,6 +49,22 @@ module _ (bad : ℕ) (u : List ℕ) where
       by-value : (y : Bool) → eqb bad 0 ≡ y → cond y (cond (ltb room (length u)) (refused 4) (record { number = 0; length = length u })) (refused 3) .number ≡ 0 → Framed room
       by-value true e n = by-room (ltb room (length u)) refl e n
       by-value false e n = absurd (omega arith)
+
+-- the buffer, over the promise: "nothing written" where it is refused, and else the writer "keeps the buffer past the frame"
+module _ {bad : ℕ} {u before after : List ℕ} {r : Written} (got : Writes bad u before r after) where
+  abbrev number : ℕ
+  number = writes bad u (length before) .number
+
+  number-is : told r .number ≡ number
+  number-is = ap (λ (w : Wrote). w .number) (got .answer)
+
+  pub refused-kept : (told r .number ≡ 0 → ⊥) → after ≡ before
+  refused-kept h = got .buffer ∙ rw (ne-eqb number 0 (λ z. h (number-is ∙ z)))
+
+  pub past-kept : told r .number ≡ 0 → drop (length u) after ≡ drop (length u) before
+  past-kept z =
+      let zero = sym number-is ∙ z in
+      ap (drop (length u)) (got .buffer ∙ rw (eq-eqb number 0 zero)) ∙ past-stored before u (wrote-frame bad u (length before) zero .fits)
 
 -- every request gets an answer
 pub writes-told : (bad : ℕ) (u : List ℕ) (room : ℕ) → (w : Written) × (told w ≡ writes bad u room)

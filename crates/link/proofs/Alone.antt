@@ -41,7 +41,7 @@ idle-ready m t later = by (late later t)
     by false = refl
 
 -- a whole unit alone, whatever the last stamp
-pub alone-accepted : (m : Memory) (t later room : ℕ) (u : List ℕ) → protocol .least ≤ room → 0 < length u → need u ≡ length u
+alone-accepted : (m : Memory) (t later room : ℕ) (u : List ℕ) → protocol .least ≤ room → 0 < length u → need u ≡ length u
     → let a = act m (whole u) in accept protocol (stateAt m [] t) later room u ≡ over (length u) (a .reply) (a .orders) (stateAt (a .next) [] later)
 alone-accepted m t later room u wide some is =
     accept-readied (stateAt m [] t) later room u wide some ∙ ap (λ (s : State Memory). accept protocol s later room u) (idle-ready m t later)

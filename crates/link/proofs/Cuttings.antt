@@ -1,23 +1,21 @@
--- Requests as one run of bytes, offered in any cutting: what is read back is the same. Each frame's bytes share a stamp; a cutting can part them
--- anywhere. Assumes nothing.
+-- Requests as one run of bytes on the line, each byte behind its own stamp, offered in any cutting: what is read back is the same. In quotation
+-- marks: sheet 01. Assumes nothing.
 use mathlib.Core.Path.{_≡_, refl, sym, ap, subst, _∙_}
 use mathlib.Core.List.{List, [], _∷_, _++_}
-use Prim.Native.Nat.{ℕ, _<_}
-use native.Mathlib.Omega.{arith}
-use lib.ListN.{length, take}
-use lib.Seq.{take-length}
-use Rattle.rule.specs.Run.{Item, at}
+use Prim.Native.Nat.{ℕ, suc}
+use lib.ListN.{length}
+use Rattle.rule.specs.Run.{Item, lastStamp}
 use Rattle.rule.specs.Framing.{whole}
 use Rattle.rule.specs.Rule.{Said, then, State, with-line}
 use Rattle.rule.specs.Step.{steps}
-use Rattle.rule.specs.Calls.{Called}
+use Rattle.rule.specs.Facts.{InTime, spread}
 use Rattle.rule.specs.Loop.{stateAt}
 use Rattle.rule.proofs.Steps.{steps-append}
-use Rattle.rule.proofs.Calls.{accept-steps}
-use Rattle.unit.specs.Names.{need}
+use Rattle.rule.proofs.Spread.{steps-in-time}
 use Rattle.unit.specs.Unit.{Memory, Event, act}
 use Rattle.unit.specs.Protocol.{protocol}
 use Rattle.unit.specs.declared.names.Order.{Order}
+use Rattle.unit.proofs.Need.{need-law}
 use Rattle.receiver.specs.State.{boardOf}
 use Rattle.receiver.specs.declared.Board.{Board}
 use Rattle.receiver.proofs.Demands.{Offered, offered-steps}
@@ -26,32 +24,24 @@ use Rattle.host.specs.Request.{frame}
 use Rattle.host.specs.declared.request.Request.{Request}
 use Rattle.host.specs.declared.answer.Reading.{Reading}
 use Rattle.link.specs.Book.{noted, answersTo, ordersOf, repliesTo}
-use Rattle.link.proofs.Alone.{alone-accepted}
-use Rattle.link.proofs.Requests.{frame-least, frame-whole, acts, settings-own}
+use Rattle.link.proofs.Requests.{frame-whole, acts, settings-own}
 use Rattle.link.proofs.Sessions.{ReadOff, AnswerForAnswer, TypedBoard, TypedAll, Sendable, replies-read}
 
--- a request, and when its frame comes
+-- a request, and the stamps of its frame's bytes: no wait inside it is "more than 400 ms"; before it any is
 pub record Sent : Type 0 where
-  pub stamp : ℕ
   pub request : Request
+  pub first : ℕ
+  pub others : List ℕ
+  pub each : length (frame request) ≡ suc (length others)
+  pub inTime : InTime first others
 
 abbrev pub runOf : List Sent → List (Item Event)
 runOf [] = []
-runOf (x ∷ xs) = at (x .stamp) (frame (x .request)) ++ runOf xs
+runOf (x ∷ xs) = spread (x .first ∷ x .others) (frame (x .request)) ++ runOf xs
 
 abbrev pub requestsOf : List Sent → List Request
 requestsOf [] = []
 requestsOf (x ∷ xs) = x .request ∷ requestsOf xs
-
--- the byte steps over a whole unit, from nothing unfinished, say what the unit does
-unit-steps : (m : Memory) (t later : ℕ) (u : List ℕ) → 0 < length u → need u ≡ length u
-    → steps protocol (stateAt m [] t) (at later u) ≡ with-line (record { unfinished = []; last = later }) (act m (whole u))
-unit-steps m t later u some is =
-    let c = alone-accepted m t later 48 u (omega arith) some is in
-    ap (λ (v : List ℕ). steps protocol (stateAt m [] t) (at later v))
-    (sym (ap (λ (y : Called Order Memory). take (y .taken) u) c ∙ take-length u))
-    ∙ sym (accept-steps protocol u (stateAt m [] t) later 48 .same)
-    ∙ ap (λ (y : Called Order Memory). y .said) c
 
 -- what is said of requests one after the other
 record Answered (m : Memory) (qs : List Request) (w : Said Order (State Memory)) : Type 0 where
@@ -66,11 +56,13 @@ run-answered (x ∷ xs) m t good =
     let qs = requestsOf xs in
     let done = acts m q (good .0 .0) (good .0 .1) in
     let n = act m (whole (frame q)) .next in
-    let ih = run-answered xs n (x .stamp) (good .1) in
-    let all : steps protocol (stateAt m [] t) (runOf (x ∷ xs)) ≡ then (with-line (record { unfinished = []; last = x .stamp }) (act m (whole (frame q)))) (λ s. steps protocol s (runOf xs)) =
-    steps-append protocol (at (x .stamp) (frame q)) (runOf xs) (stateAt m [] t)
+    let items = spread (x .first ∷ x .others) (frame q) in
+    let last = lastStamp t items in
+    let ih = run-answered xs n last (good .1) in
+    let all : steps protocol (stateAt m [] t) (runOf (x ∷ xs)) ≡ then (with-line (record { unfinished = []; last = last }) (act m (whole (frame q)))) (λ s. steps protocol s (runOf xs)) =
+    steps-append protocol items (runOf xs) (stateAt m [] t)
     ∙ ap (λ (y : Said Order (State Memory)). then y (λ s. steps protocol s (runOf xs)))
-    (unit-steps m t (x .stamp) (frame q) (omega (arith, frame-least q)) (frame-whole q)) in
+    (steps-in-time protocol need-law m t (x .first) (x .others) (frame q) (x .each) (x .inTime) (frame-whole q)) in
     let next : repliesTo (fieldsAt (n .settings)) qs ≡ repliesTo (noted (fieldsAt (m .settings)) q) qs = λ i. repliesTo (λ c. done .blocks c i) qs in
     record {
       replies = ap (λ (y : Said Order (State Memory)). y .reply) all ∙ (λ i. done .reply i ++ (ih .replies ∙ next) i);

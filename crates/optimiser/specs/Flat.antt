@@ -1,4 +1,4 @@
--- The host's answers, flat. In quotation marks: sheet 01.
+-- The host's answers, flat, by the numbers of sheets 01 and 02 (P1).
 use mathlib.Core.Bool.{Bool, cond}
 use mathlib.Core.List.{List, [], _∷_}
 use mathlib.Core.Path.{_≡_}
@@ -26,7 +26,7 @@ use Rattle.optimiser.specs.declared.FlatAnswer.{FlatAnswer}
 abbrev pub blockNumber : Block → ℕ
 blockNumber b = rowOf b .number
 
--- "Orders: 1 stop, 2 sstp, 3 pwof, 4 left, 5 rigt, 6 home, 7 loft."
+-- 01: "Orders: 1 stop, 2 sstp, 3 pwof, 4 left, 5 rigt, 6 home, 7 loft."
 abbrev pub orderNumber : Order → ℕ
 orderNumber Stop = 1
 orderNumber Sstp = 2

@@ -14,3 +14,4 @@ pub mod Bytes
 pub mod Whole
 pub mod Largest
 pub mod Numbered
+pub mod Spread

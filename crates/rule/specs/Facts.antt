@@ -1,13 +1,19 @@
 -- The words in which the laws of proofs/ are stated; no part of the rule. In quotation marks: sheet 01.
 use Prim.Native.Nat.{ℕ, _-_, _<_, _≤_}
 use mathlib.Core.Path.{_≡_}
+use mathlib.Core.Bool.{false}
 use mathlib.Core.List.{List, [], _∷_, _++_}
 use lib.ListN.{length, take, drop}
-use Rattle.rule.specs.Run.{byte, at}
+use Rattle.rule.specs.Run.{Item, byte, at, late}
 use Rattle.rule.specs.Framing.{Token, whole, lost, seen, Front, ends, drops, stays, Cut}
 use Rattle.rule.specs.Rule.{Said, State, Protocol}
 use Rattle.rule.specs.Step.{step, steps}
 use Rattle.rule.specs.Calls.{Called}
+
+-- stamps behind t, none "more than 400 ms" after the one before it
+abbrev pub InTime : ℕ → List ℕ → Type 0
+InTime t [] = Unit {0}
+InTime t (s ∷ ts) = (late s t ≡ false) × InTime s ts
 
 module _ {E : Type 0} where
   -- the bytes in tokens, in their sequence
@@ -20,6 +26,12 @@ module _ {E : Type 0} where
   -- all the bytes of a cut
   abbrev pub held : Cut E → List ℕ
   held c = spent (c .tokens) ++ c .unfinished
+
+  -- bytes, each behind its own stamp
+  abbrev pub spread : List ℕ → List ℕ → List (Item E)
+  spread [] u = []
+  spread (t ∷ ts) [] = []
+  spread (t ∷ ts) (b ∷ u) = byte t b ∷ spread ts u
 
   -- the run behind the first unit has at most n items
   abbrev pub AtMost : ℕ → Front E → Type 0

@@ -3,11 +3,11 @@ use mathlib.Core.Path.{_≡_, refl, ap, _∙_, subst}
 use mathlib.Core.Bool.{Bool, true, false}
 use mathlib.Core.List.{List, [], _∷_, _++_, append-nil, append-assoc}
 use Prim.Native.Nat.{ℕ, zero, suc, _+_, _-_, _/_, _%_, _^_, _≤_, _<_, min}
-use native.Mathlib.Nat.{add-zero, add-suc, suc-add, lt-irrefl, le-of-eq}
+use native.Mathlib.Nat.{add-zero, zero-add, add-suc, suc-add, lt-irrefl, le-of-eq}
 use native.Mathlib.Numerals.{add-one, sub-one}
 use native.Mathlib.Omega.{arith}
 use lib.ListN.{length, getD, take, drop, set, length-drop, drop-of-length-le, take-append-drop}
-use lib.Seq.{sets, sets-eq, set-out, getD-set-other, take-set-le, drop-set-add, drop-cons, take-all, take-append-seam, drop-drop, length-take-le}
+use lib.Seq.{sets, sets-eq, set-out, getD-set-other, take-set-le, drop-set-add, drop-cons, take-all, take-append-seam, drop-append-seam, drop-drop, length-take-le}
 use lib.Dec.{leb}
 use borrow.Author.Tests.{leb-true, leb-false}
 use borrow.Rule.Slice.PartMut.{midOf, putMid}
@@ -23,6 +23,12 @@ pub front-stored : (s vs : List ℕ) (n : ℕ) → length vs ≡ n → n ≤ len
 front-stored s vs n e h =
     let l : 0 + length vs ≤ length s = omega arith in
     rw (sets-eq vs s 0 l, ← e) (take-append-seam vs (drop (0 + length vs) s))
+
+-- and what stands behind it
+pub past-stored : (s vs : List ℕ) → length vs ≤ length s → drop (length vs) (sets s 0 vs) ≡ drop (length vs) s
+past-stored s vs h =
+    let l : 0 + length vs ≤ length s = omega arith in
+    rw (sets-eq vs s 0 l, zero-add (length vs)) (drop-append-seam vs (drop (length vs) s))
 
 -- a store past the end is none
 pub sets-past : (vs s : List ℕ) (p : ℕ) → length s ≤ p → sets s p vs ≡ s
