@@ -19,7 +19,9 @@ module _ (name : ℕ) (d : List ℕ) where
   -- three stores, one behind the other
   pub frame-stored : (before : List ℕ) → sets before 0 (framed name d) ≡ sets (sets (sets before 0 (leBytes 4 name)) 4 d) (4 + length d) (leBytes 2 (crcOf d))
   frame-stored before =
-      rw (sets-append before 0 (leBytes 4 name) (d ++ leBytes 2 (crcOf d)), sets-append (sets before 0 (leBytes 4 name)) (0 + length (leBytes 4 name)) d (leBytes 2 (crcOf d)), length-leBytes 4 name)
+      sets-append before 0 (leBytes 4 name) (d ++ leBytes 2 (crcOf d))
+      ∙ ap (λ (k : ℕ). sets (sets before 0 (leBytes 4 name)) (0 + k) (d ++ leBytes 2 (crcOf d))) (length-leBytes 4 name)
+      ∙ sets-append (sets before 0 (leBytes 4 name)) 4 d (leBytes 2 (crcOf d))
 
   pub frame-length : length (framed name d) ≡ 4 + length d + 2
   frame-length = rw (length-append (leBytes 4 name) (d ++ leBytes 2 (crcOf d)), length-append d (leBytes 2 (crcOf d)), length-leBytes 4 name, length-leBytes 2 (crcOf d)) (omega arith)

@@ -6,7 +6,8 @@ use native.Mathlib.Omega.{arith}
 use lib.ListN.{length, getD}
 use Rattle.wire.specs.Layout.{Room}
 use Rattle.wire.proofs.Laid.{laid-low}
-use Rattle.sheet.specs.Rows.{widths, total, rowAt, numbersIn}
+use Rattle.sheet.specs.declared.Head.{Head}
+use Rattle.sheet.specs.Rows.{widths, total, headOf, rowAt, numbersIn}
 use Rattle.sheet.proofs.Laws.{data-length, read-back}
 use Rattle.mov.proofs.Codec.{MovHeld, mov-codec}
 use Rattle.eng.proofs.Codec.{EngHeld, eng-codec}
@@ -36,6 +37,13 @@ total-most Pid = omega arith
 
 pub total-least : (b : Block) → 6 ≤ total (rowOf b)
 total-least b = omega arith
+
+-- a head that is the block's own
+pub head-total : (b : Block) (h : Head) → h ≡ headOf (rowOf b) → h .total ≡ total (rowOf b)
+head-total b h e = ap (λ (x : Head). x .total) e
+
+pub head-long : (b : Block) (h : Head) → h ≡ headOf (rowOf b) → 6 ≤ h .total
+head-long b h e = omega (arith, head-total b h e, total-least b)
 
 pub section-length : (f : Fields) → length (sectionOf f) ≡ total (rowOf (blockOf f)) - 6
 section-length f = data-length (rowOf (blockOf f)) (numbersOf f)

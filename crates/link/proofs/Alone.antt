@@ -1,6 +1,6 @@
 -- One whole unit, offered alone to a sound board with nothing unfinished: over `receive`'s own promise. Assumes nothing.
 use mathlib.Core.Path.{_≡_, refl, ap, _∙_}
-use mathlib.Core.Bool.{Bool, true, false, cond}
+use mathlib.Core.Bool.{true}
 use mathlib.Core.List.{List, []}
 use Prim.Native.Nat.{ℕ, _≤_, _<_}
 use native.Mathlib.Omega.{arith}
@@ -8,9 +8,10 @@ use lib.ListN.{length, take}
 use borrow.Author.Tests.{ne-eqb}
 use Rattle.rule.specs.Run.{late}
 use Rattle.rule.specs.Framing.{whole}
-use Rattle.rule.specs.Rule.{Said, State}
+use Rattle.rule.specs.Rule.{State}
 use Rattle.rule.specs.Calls.{Called, accept, call}
 use Rattle.rule.specs.Loop.{over, stateAt, ready}
+use Rattle.rule.proofs.Choice.{either}
 use Rattle.rule.proofs.Numbered.{call-accepted}
 use Rattle.rule.proofs.Units.{unit-alone}
 use Rattle.unit.specs.Names.{need}
@@ -34,11 +35,7 @@ pub record Ready (b : Board) : Type 0 where
 -- a wait drops nothing where nothing is unfinished
 idle-ready : (m : Memory) (t later : ℕ) → ready protocol (stateAt m [] t) later ≡ stateAt m [] later
 unfolding ready
-idle-ready m t later = by (late later t)
-  where
-    by : (y : Bool) → cond y (stateAt m [] later) (stateAt m [] later) ≡ stateAt m [] later
-    by true = refl
-    by false = refl
+idle-ready m t later = either (λ (s : State Memory). s ≡ stateAt m [] later) (late later t) _ _ refl refl
 
 -- a whole unit alone, whatever the last stamp
 alone-accepted : (m : Memory) (t later room : ℕ) (u : List ℕ) → protocol .least ≤ room → 0 < length u → need u ≡ length u
@@ -47,40 +44,35 @@ alone-accepted m t later room u wide some is =
     accept-readied (stateAt m [] t) later room u wide some ∙ ap (λ (s : State Memory). accept protocol s later room u) (idle-ready m t later)
     ∙ unit-alone protocol need-law m later room u is (omega (arith, act-most m u))
 
-module _ {b : Board} {t : ℕ} {u before after : List ℕ} {r : Call} (got : Answers b t u before r after) (can : Ready b)
-    (wide : protocol .least ≤ length before) (fits : length u ≤ protocol .longest) (some : 0 < length u) (is : need u ≡ length u) where
-  -- what the unit does to the board's memory
-  abbrev pub does : Said Order Memory
-  does = act (memory (b .settings) (b .notes)) (whole u)
+-- the board's memory, and what a unit does to it
+abbrev pub memoryOf : Board → Memory
+memoryOf b = memory (b .settings) (b .notes)
 
-  at-rest : stateOf b ≡ stateAt (memory (b .settings) (b .notes)) [] (b .stamp)
-  at-rest = ap (λ (n : ℕ). stateAt (memory (b .settings) (b .notes)) (take n (b .held)) (b .stamp)) (can .idle)
+-- the unit u "is taken whole and accepted", and the call says what the unit does
+pub record Taken (b : Board) (t : ℕ) (u : List ℕ) (r : Call) (after : List ℕ) : Type 0 where
+  pub number : r .number ≡ 0
+  pub taken : r .taken ≡ length u
+  pub written : r .written ≡ length (act (memoryOf b) (whole u) .reply)
+  pub reply : take (r .written) after ≡ act (memoryOf b) (whole u) .reply
+  pub order : given (r .order) ≡ act (memoryOf b) (whole u) .orders
+  pub board : r .board ≡ boardOf (stateAt (act (memoryOf b) (whole u) .next) [] t)
 
-  call-is : call protocol (stateOf b) t (length before) u ≡ over (length u) (does .reply) (does .orders) (stateAt (does .next) [] t)
-  call-is =
-      call-accepted protocol (stateOf b) t (length before) u fits wide (can .sound)
-      ∙ ap (λ (s : State Memory). accept protocol s t (length before) u) at-rest
-      ∙ alone-accepted (memory (b .settings) (b .notes)) (b .stamp) t (length before) u wide some is
-
-  answer-is : r ≡ answer b (over (length u) (does .reply) (does .orders) (stateAt (does .next) [] t))
-  answer-is = promise got .result ∙ ap (answer b) call-is
-
-  -- it "is taken whole and accepted"
-  pub number-is : r .number ≡ 0
-  number-is = ap (λ (y : Call). y .number) answer-is
-
-  pub taken-is : r .taken ≡ length u
-  taken-is = ap (λ (y : Call). y .taken) answer-is
-
-  -- and the call says what the unit does
-  pub reply-is : take (r .written) after ≡ does .reply
-  reply-is = written-is got ∙ ap (λ (y : Called Order Memory). y .said .reply) call-is
-
-  pub written-long : r .written ≡ length (does .reply)
-  written-long = ap (λ (y : Call). y .written) answer-is
-
-  pub order-is : given (r .order) ≡ does .orders
-  order-is = ap (λ (y : Call). given (y .order)) answer-is ∙ act-order (memory (b .settings) (b .notes)) u
-
-  pub board-is : r .board ≡ boardOf (stateAt (does .next) [] t)
-  board-is = ap (λ (y : Call). y .board) answer-is ∙ rw (ne-eqb (length u) 0 (λ e. omega arith))
+pub taken-alone : {b : Board} {t : ℕ} {u before after : List ℕ} {r : Call} → Answers b t u before r after → Ready b → protocol .least ≤ length before
+    → length u ≤ protocol .longest → 0 < length u → need u ≡ length u → Taken b t u r after
+taken-alone {b} {t} {u} {before} {after} {r} got can wide fits some is =
+    let m = memoryOf b in
+    let a = act m (whole u) in
+    let at-rest = ap (λ (n : ℕ). stateAt m (take n (b .held)) (b .stamp)) (can .idle) in
+    let call-is : call protocol (stateOf b) t (length before) u ≡ over (length u) (a .reply) (a .orders) (stateAt (a .next) [] t) =
+    call-accepted protocol (stateOf b) t (length before) u fits wide (can .sound)
+    ∙ ap (λ (s : State Memory). accept protocol s t (length before) u) at-rest
+    ∙ alone-accepted m (b .stamp) t (length before) u wide some is in
+    let answer-is = promise got .result ∙ ap (answer b) call-is in
+    record {
+      number = ap (λ (y : Call). y .number) answer-is;
+      taken = ap (λ (y : Call). y .taken) answer-is;
+      written = ap (λ (y : Call). y .written) answer-is;
+      reply = written-is got ∙ ap (λ (y : Called Order Memory). y .said .reply) call-is;
+      order = ap (λ (y : Call). given (y .order)) answer-is ∙ act-order m u;
+      board = ap (λ (y : Call). y .board) answer-is ∙ rw (ne-eqb (length u) 0 (λ e. omega arith));
+    }

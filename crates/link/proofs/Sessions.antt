@@ -2,21 +2,20 @@
 -- Assumes nothing.
 use mathlib.Core.Path.{_≡_, refl, sym, ap, subst, _∙_}
 use mathlib.Core.List.{List, [], _∷_, _++_}
-use Prim.Native.Nat.{ℕ, zero, suc, _≤_, _<_}
+use Prim.Native.Nat.{ℕ, zero, suc, _≤_}
 use native.Mathlib.Omega.{arith}
-use denote.Ref.{RefT, now}
+use denote.Ref.{now}
 use lib.ListN.{length, take, drop, replicate}
 use lib.Seq.{sets, drop-append-seam}
 use borrow.Author.Tests.{eq-eqb, ne-eqb}
 use Rattle.wire.proofs.Stores.{front-stored}
 use Rattle.rule.specs.Framing.{whole}
-use Rattle.unit.specs.Unit.{Memory, memory, act}
 use Rattle.unit.specs.Protocol.{protocol}
 use Rattle.unit.specs.declared.names.Order.{Order}
 use Rattle.unit.proofs.Replies.{given}
 use Rattle.receiver.specs.declared.Board.{Board}
 use Rattle.receiver.specs.declared.Call.{Call}
-use Rattle.receiver.proofs.Demands.{Answers, receive-some, keeps-sound}
+use Rattle.receiver.proofs.Demands.{Answers, refTo, receive-some, keeps-sound}
 use Rattle.host.specs.Names.{rowOf}
 use Rattle.host.specs.Fields.{blockOf, fieldsAt}
 use Rattle.host.specs.Request.{frame, badIn, writes, leaves, Writes}
@@ -35,8 +34,7 @@ use Rattle.host.proofs.Fronts.{front-told}
 use Rattle.host.proofs.request.write.Reads as write
 use Rattle.host.proofs.answer.read.Reads as read
 use Rattle.link.specs.Book.{Book, noted, answerTo, answersTo, ordersBy, ordersOf, replyTo, repliesTo}
-use Rattle.link.proofs.Alone as alone
-use Rattle.link.proofs.Alone.{Ready}
+use Rattle.link.proofs.Alone.{Ready, memoryOf, Taken, taken-alone}
 use Rattle.link.proofs.Requests.{TypedIn, frame-least, frame-most, frame-whole, Acts, acts, Bound, settings-own, noted-bound, reply-read}
 
 -- ---- what the contracts allow
@@ -77,66 +75,49 @@ module _ {q : Request} {n : ℕ} {room out : List ℕ} (written : Writing q room
 -- "a written frame, offered whole to a sound board with room enough and nothing unfinished, is accepted"
 module _ {q : Request} {n : ℕ} {room out : List ℕ} (written : Writing q room (Frame n) out) (typed : TypedIn q)
     {b : Board} {t : ℕ} {before after : List ℕ} {r : Call} (got : Answers b t (take n out) before r after) (can : Ready b) (wide : protocol .least ≤ length before) where
-  abbrev m : Memory
-  m = memory (b .settings) (b .notes)
-
   abbrev book : Book
   book = fieldsAt (b .settings)
 
-  -- the board is offered the frame
-  offered : Answers b t (frame q) before r after
-  offered = subst (λ (u : List ℕ). Answers b t u before r after) (frame-is written) got
+  done : Acts (memoryOf b) q
+  done = acts (memoryOf b) q typed (stands written .good)
 
-  done : Acts m q
-  done = acts m q typed (stands written .good)
-
-  short : length (frame q) ≤ protocol .longest
-  short = omega (arith, frame-most q)
-
-  some : 0 < length (frame q)
-  some = omega (arith, frame-least q)
+  -- the board is offered the frame, alone
+  one-unit : Taken b t (frame q) r after
+  one-unit =
+      taken-alone (subst (λ (u : List ℕ). Answers b t u before r after) (frame-is written) got) can wide (omega (arith, frame-most q))
+      (omega (arith, frame-least q)) (frame-whole q)
 
   pub accepted : r .number ≡ 0
-  accepted = alone.number-is offered can wide short some (frame-whole q)
+  accepted = one-unit .number
 
   -- it "is taken whole"
   pub taken : r .taken ≡ n
-  taken = alone.taken-is offered can wide short some (frame-whole q) ∙ sym (length-is written)
+  taken = one-unit .taken ∙ sym (length-is written)
 
   -- "a set is echoed, a get answered with its data, an order echoed and given"
   pub replied : take (r .written) after ≡ replyTo book q
-  replied = alone.reply-is offered can wide short some (frame-whole q) ∙ done .reply
+  replied = one-unit .reply ∙ done .reply
 
   pub ordered : given (r .order) ≡ ordersBy q
-  ordered = alone.order-is offered can wide short some (frame-whole q) ∙ done .orders
+  ordered = one-unit .order ∙ done .orders
 
   -- each block is then as the book has it
-  next-is : r .board .settings ≡ act m (whole (frame q)) .next .settings
-  next-is = ap (λ (y : Board). y .settings) (alone.board-is offered can wide short some (frame-whole q))
-
   pub blocks : (c : Block) → fieldsAt (r .board .settings) c ≡ noted book q c
-  blocks c = ap (λ s. fieldsAt s c) next-is ∙ done .blocks c
+  blocks c = ap (λ (y : Board). fieldsAt (y .settings) c) (one-unit .board) ∙ done .blocks c
 
   -- flags and last refused field stay, and the board can be asked again
   pub notes : r .board .notes ≡ b .notes
-  notes = ap (λ (y : Board). y .notes) (alone.board-is offered can wide short some (frame-whole q)) ∙ done .notes
+  notes = ap (λ (y : Board). y .notes) (one-unit .board) ∙ done .notes
 
   pub ready-again : Ready (r .board)
-  ready-again =
-      record {
-        sound = keeps-sound got (can .sound);
-        idle = ap (λ (y : Board). y .count) (alone.board-is offered can wide short some (frame-whole q));
-      }
-
-  pub written-is : r .written ≡ length (replyTo book q)
-  written-is = alone.written-long offered can wide short some (frame-whole q) ∙ ap length (done .reply)
+  ready-again = record { sound = keeps-sound got (can .sound); idle = ap (λ (y : Board). y .count) (one-unit .board) }
 
   -- "the host reader gives back what a get reply holds", and so each reply, whatever stands behind it
   pub read-back : Bound book → (rest : List ℕ) {x : Reading} → Reads (take (r .written) after ++ rest) x
       → told x ≡ took (r .written) (answerTo book q)
   read-back bound rest got-read =
       has-read got-read ∙ ap (λ (u : List ℕ). front (u ++ rest)) replied ∙ reply-read book q bound rest
-      ∙ ap (λ (k : ℕ). took k (answerTo book q)) (sym written-is)
+      ∙ ap (λ (k : ℕ). took k (answerTo book q)) (sym (one-unit .written ∙ ap length (done .reply)))
 
   -- the book goes on
   pub next-book : fieldsAt (r .board .settings) ≡ noted book q
@@ -237,17 +218,12 @@ asked-read {b = b} {qs = qs} {rest = rest} {xs = xs} asked can typed off e =
 
 -- ---- every request, every slice and every sequence gets its answers
 
-refTo : List ℕ → RefT (List ℕ)
-refTo l = record { ptr = (0, 0); name = 0; now = l }
-
 pub write-some : (q : Request) (room : List ℕ) → (w : Written) × Writing q room w (leaves (badIn q) (frame q) room)
-unfolding refTo
 write-some q room =
     let w = writes-told (badIn q) (frame q) (length room) in
     (w .0, allowed ([], tt) (q, (refTo room, tt)) (q, (refTo (leaves (badIn q) (frame q) room), tt)) (record { answer = w .1; buffer = refl }) refl refl refl)
 
 pub read-some : (bytes : List ℕ) → (x : Reading) × Reads bytes x
-unfolding refTo
 read-some bytes = let x = front-told bytes in (x .0, allowed ([], tt) (refTo bytes, tt) (refTo bytes, tt) (x .1) refl)
 
 -- as often as one likes
@@ -265,7 +241,6 @@ Sendable (q ∷ qs) = (TypedIn q × (badIn q ≡ 0)) × Sendable qs
 
 -- a request that passes its test is written where it fits
 pub write-good : (q : Request) (room : List ℕ) → badIn q ≡ 0 → length (frame q) ≤ length room → (out : List ℕ) × Writing q room (Frame (length (frame q))) out
-unfolding refTo
 write-good q room good fits =
     let w = says-frame (badIn q) (frame q) room (length (frame q)) (sets room 0 (frame q)) good fits refl refl in
     (sets room 0 (frame q), allowed ([], tt) (q, (refTo room, tt)) (q, (refTo (sets room 0 (frame q)), tt)) w refl refl refl)

@@ -67,13 +67,13 @@ receive-one x y = (promise x .result ∙ sym (promise y .result), promise x .rep
 pub fresh-one : Leaves fresh.Post (λ κs r s. r)
 fresh-one κs a r r' s s' p q = p ∙ sym q
 
-refTo : List ℕ → RefT (List ℕ)
+-- a reference to a list, to show an answer with
+abbrev pub refTo : List ℕ → RefT (List ℕ)
 refTo l = record { ptr = (0, 0); name = 0; now = l }
 
 -- Demand 1: "Every board state, piece, stamp and reply buffer gets an answer."
 pub receive-some : (b : Board) (t : ℕ) (p before : List ℕ) → let c = call protocol (stateOf b) t (length before) p in
     Answers b t p before (answer b c) (c .said .reply ++ drop (length (c .said .reply)) before)
-unfolding refTo
 receive-some b t p before =
     let c = call protocol (stateOf b) t (length before) p in
     let after = c .said .reply ++ drop (length (c .said .reply)) before in

@@ -18,7 +18,7 @@ use Rattle.host.specs.Answer.{took, refused, dataFront}
 use Rattle.host.specs.declared.names.Block.{Block}
 use Rattle.host.specs.declared.fields.Fields.{Fields}
 use Rattle.host.specs.declared.answer.Answer.the-variants.{Data}
-use Rattle.host.proofs.Blocks.{total-least}
+use Rattle.host.proofs.Blocks.{head-total, head-long}
 use Rattle.host.proofs.Fronts.{data-cut, data-damaged, data-taken}
 use Rattle.host.proofs.answer.read_data.Statement.{statement}
 use Rattle.host.proofs.answer.read_data.Tie as tie
@@ -29,11 +29,7 @@ module _ (b : Block) (h : Head) (has : h ≡ headOf (rowOf b)) where
   n = h .total
 
   total-is : n ≡ total (rowOf b)
-  total-is = ap (λ (x : Head). x .total) has
-
-  -- a frame has a name and a CRC
-  long : 6 ≤ n
-  long = rw total-is (total-least b)
+  total-is = head-total b h has
 
   module _ (s : List ℕ) where
     cut : length s < n → refused 7 ≡ dataFront b s
@@ -44,7 +40,7 @@ module _ (b : Block) (h : Head) (has : h ≡ headOf (rowOf b)) where
 
     taken : n ≤ length s → intact (take n s) ≡ true → (f : Fields) → f ≡ fieldsIn b (take (n - 2 - 4) (drop 4 s)) → took n (Data f) ≡ dataFront b s
     taken l e f is =
-        (λ i. took (total-is i) (Data ((is ∙ ap (fieldsIn b) (front-data s n long l) ∙ ap (λ (k : ℕ). fieldsIn b (dataIn (take k s))) total-is) i)))
+        (λ i. took (total-is i) (Data ((is ∙ ap (fieldsIn b) (front-data s n (head-long b h has) l) ∙ ap (λ (k : ℕ). fieldsIn b (dataIn (take k s))) total-is) i)))
         ∙ sym (data-taken s b (rw total-is at l) (rw total-is at e))
 
 returns : tie.Need-returns
@@ -62,13 +58,13 @@ returns-2 c =
     damaged (a .block) (h .head-of .result) (h .head-of .ensures) (a .bytes .now) (t .if1 .left) (sym (i .is-intact .ensures) ∙ not-true _ (c .if2 .taken))
 
 sub-end : tie.Need-sub-end
-sub-end c = let h = c .before .before .before .before in omega (arith, long (h .before .before .args .block) (h .head-of .result) (h .head-of .ensures))
+sub-end c = let h = c .before .before .before .before in omega (arith, head-long (h .before .before .args .block) (h .head-of .result) (h .head-of .ensures))
 
 sub-decode : tie.Need-sub-decode
-sub-decode c = let h = c .before .before .before .before in omega (arith, long (h .before .before .args .block) (h .head-of .result) (h .head-of .ensures))
+sub-decode c = let h = c .before .before .before .before in omega (arith, head-long (h .before .before .args .block) (h .head-of .result) (h .head-of .ensures))
 
 part-decode-start : tie.Need-part-decode-start
-part-decode-start c = let h = c .before .before .before .before in omega (arith, long (h .before .before .args .block) (h .head-of .result) (h .head-of .ensures), c .before .before .before .if1 .left)
+part-decode-start c = let h = c .before .before .before .before in omega (arith, head-long (h .before .before .args .block) (h .head-of .result) (h .head-of .ensures), c .before .before .before .if1 .left)
 
 returns-3 : tie.Need-returns-3
 returns-3 c =

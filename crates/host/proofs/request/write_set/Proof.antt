@@ -15,7 +15,7 @@ use Rattle.host.specs.Fields.{blockOf, numbersOf, firstBadOf, sectionOf}
 use Rattle.host.specs.Request.{setFrame}
 use Rattle.host.specs.declared.names.Block.{Block}
 use Rattle.host.specs.declared.fields.Fields.{Fields}
-use Rattle.host.proofs.Blocks.{total-most, total-least, set-length}
+use Rattle.host.proofs.Blocks.{total-most, head-total, head-long, set-length}
 use Rattle.host.proofs.Writes.{says-out-of-range, says-too-short, says-frame}
 use Rattle.host.proofs.request.write_set.Statement.{statement}
 use Rattle.host.proofs.request.write_set.Tie as tie
@@ -26,10 +26,10 @@ module _ (f : Fields) (b : Block) (is : b ≡ blockOf f) (h : Head) (has : h ≡
   head-is = has ∙ ap (λ (x : Block). headOf (rowOf x)) is
 
   total-is : h .total ≡ total (rowOf (blockOf f))
-  total-is = ap (λ (x : Head). x .total) head-is
+  total-is = head-total (blockOf f) h head-is
 
   long : 6 ≤ h .total
-  long = rw total-is (total-least (blockOf f))
+  long = head-long (blockOf f) h head-is
 
   module _ (zs section : List ℕ) (room : 48 ≡ length zs) (laid : section ≡ sets zs 0 (sectionOf f)) where
     fits : h .total - 6 ≤ length section
