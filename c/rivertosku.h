@@ -49,6 +49,8 @@ enum {
     RIVERTOSKU_VALUE_ERROR = 4    /* errv: a set with a field out of range */
 };
 
+/* A flag bit that is not known makes its field out of range. */
+
 /* Block 1: speeds 0..100000, accel and decel 1..65535. */
 struct rivertosku_mov {
     uint32_t speed;
@@ -65,7 +67,7 @@ struct rivertosku_eng {
     uint16_t nom_current;
     uint32_t nom_speed;
     uint8_t u_nom_speed;
-    uint16_t engine_flags;
+    uint16_t engine_flags; /* known bits 0xFF */
     int16_t antiplay;
     uint8_t microstep_mode;
     uint16_t steps_per_rev;
@@ -77,13 +79,13 @@ struct rivertosku_pwr {
     uint16_t curr_reduct_delay;
     uint16_t power_off_delay;
     uint16_t current_set_time;
-    uint8_t power_flags;
+    uint8_t power_flags; /* known bits 0x07 */
 };
 
 /* Block 4: microsteps -255..255. */
 struct rivertosku_eds {
-    uint8_t border_flags;
-    uint8_t ender_flags;
+    uint8_t border_flags; /* known bits 0x0F */
+    uint8_t ender_flags;  /* known bits 0x07 */
     int32_t left_border;
     int16_t u_left_border;
     int32_t right_border;
@@ -98,7 +100,7 @@ struct rivertosku_hom {
     uint8_t u_slow_home;
     int32_t home_delta;
     int16_t u_home_delta;
-    uint16_t home_flags;
+    uint16_t home_flags; /* known bits 0x1FF */
 };
 
 /* Block 6. */
@@ -107,7 +109,7 @@ struct rivertosku_brk {
     uint16_t t2;
     uint16_t t3;
     uint16_t t4;
-    uint8_t brake_flags;
+    uint8_t brake_flags; /* known bits 0x03 */
 };
 
 /* Block 7: the floats are finite. */

@@ -1,15 +1,16 @@
-"""The bench in Python, written from sheet 01 alone, for ./make.py: it shares nothing with the crates."""
+"""The bench in Python, written from sheets 01 and 02 alone, for ./make.py: it shares nothing with the crates."""
 import struct
 
-# name: fields (format, least, most), reserved bytes; in 01's order
+# name: fields (format, least, most) or (format, BITS, known bits), reserved bytes; in 01's order
 ANY = None
+BITS = 'bits'
 BLOCKS = {
     'mov': ([('I', 0, 100000), ('B', ANY), ('H', 1, 65535), ('H', 1, 65535), ('I', 0, 100000), ('B', ANY)], 10),
-    'eng': ([('H', ANY), ('H', 15, 8000), ('I', 1, 100000), ('B', ANY), ('H', ANY), ('h', ANY), ('B', 1, 9), ('H', 1, 65535)], 12),
-    'pwr': ([('B', 0, 100), ('H', ANY), ('H', ANY), ('H', ANY), ('B', ANY)], 6),
-    'eds': ([('B', ANY), ('B', ANY), ('i', ANY), ('h', -255, 255), ('i', ANY), ('h', -255, 255)], 6),
-    'hom': ([('I', 0, 100000), ('B', ANY), ('I', 0, 100000), ('B', ANY), ('i', ANY), ('h', -255, 255), ('H', ANY)], 9),
-    'brk': ([('H', ANY), ('H', ANY), ('H', ANY), ('H', ANY), ('B', ANY)], 10),
+    'eng': ([('H', ANY), ('H', 15, 8000), ('I', 1, 100000), ('B', ANY), ('H', BITS, 0xFF), ('h', ANY), ('B', 1, 9), ('H', 1, 65535)], 12),
+    'pwr': ([('B', 0, 100), ('H', ANY), ('H', ANY), ('H', ANY), ('B', BITS, 0x07)], 6),
+    'eds': ([('B', BITS, 0x0F), ('B', BITS, 0x07), ('i', ANY), ('h', -255, 255), ('i', ANY), ('h', -255, 255)], 6),
+    'hom': ([('I', 0, 100000), ('B', ANY), ('I', 0, 100000), ('B', ANY), ('i', ANY), ('h', -255, 255), ('H', BITS, 0x1FF)], 9),
+    'brk': ([('H', ANY), ('H', ANY), ('H', ANY), ('H', ANY), ('B', BITS, 0x03)], 10),
     'pid': ([('H', ANY), ('H', ANY), ('H', ANY), ('F', ANY), ('F', ANY), ('F', ANY)], 24),
 }
 ORDERS = ['stop', 'sstp', 'pwof', 'left', 'rigt', 'home', 'loft']
@@ -31,6 +32,8 @@ def layout(name):  # a float is kept as its 32 bits
 def passes(field, n):
     if field[0] == 'F':
         return n >> 23 & 255 != 255
+    if field[1] is BITS:
+        return n & ~field[2] == 0
     return field[1] is ANY or field[1] <= n <= field[2]
 
 

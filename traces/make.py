@@ -4,7 +4,7 @@ import os
 import sys
 
 sys.dont_write_bytecode = True
-from bench import ANY, BLOCKS, ORDERS, bench, frame, passes, record
+from bench import ANY, BITS, BLOCKS, ORDERS, bench, frame, passes, record
 
 
 def joined(first, step, pieces):
@@ -12,16 +12,20 @@ def joined(first, step, pieces):
 
 
 def good(field, k):
-    """A number that the k-th field takes, no fresh one: floats -0.0, the least above 0, the largest finite."""
+    """A number that the k-th field takes, no fresh one: floats -0.0, the least above 0, the largest finite; flags all that are known."""
     if field[0] == 'F':
         return [0x80000000, 1, 0x7F7FFFFF][k % 3]
+    if field[1] is BITS:
+        return field[2]
     if field[1] is not ANY:
         return field[2] - k
     return -3 - k if field[0].islower() else 7 + k
 
 
 def bad(field):
-    """A number of the field's width out of its range, or None where every one passes."""
+    """A number of the field's width out of its range, or None where every one passes; of flags the lowest bit that is not known."""
+    if field[1] is BITS:
+        return field[2] + 1
     tries = [0x7F800000] if field[0] == 'F' else [] if field[1] is ANY else [field[2] + 1, field[1] - 1]
     top = {'B': 256, 'H': 65536, 'h': 32768}.get(field[0], 2**32)
     return next((n for n in tries if not passes(field, n) and n < top), None)
@@ -32,7 +36,7 @@ def every_unit(name):
     fields, get = BLOCKS[name][0], b'g' + name.encode()
     kept = [good(f, k) for k, f in enumerate(fields)]
     yield from [get, frame(name, kept, reserved=255), get]
-    yield frame(name, [0 if f[1] is ANY else f[1] for f in fields], wrong=1)
+    yield frame(name, [0 if f[1] in (ANY, BITS) else f[1] for f in fields], wrong=1)
     for k, field in enumerate(fields):
         if bad(field) is not None:
             yield frame(name, kept[:k] + [bad(field)] + kept[k + 1:])
@@ -61,7 +65,7 @@ def night():
 WAITS = [(4294967200, b'st'), (304, b'op'), (4294967200, b'st'), (305, b'op'), (706, b'st'), (1106, b'op'), (2000, b'st'), (2401, b'\0'),
          (3000, b'st'), (3300, b''), (3401, b'op'), (3400, b'xx')]
 BEFORE, NEXT = record(1000, b'stop\0'), record(2000, b'left')
-SET = frame('brk', [1, 2, 3, 4, 5])
+SET = frame('brk', [1, 2, 4, 5, 3])
 
 TRACES = {
     'example': record(1000, b'stopxxxx\0') + record(2000, b'le') + record(2401, b'ft'),

@@ -1,4 +1,4 @@
-//! 01's table of blocks, and random frames, good and nasty, from a seeded generator.
+//! 01's table of blocks with 02's known flag bits, and random frames, good and nasty, from a seeded generator.
 
 use crate::second::crc;
 
@@ -33,17 +33,18 @@ impl Random {
     }
 }
 
-/// A field's width in bytes and its range, or a float.
+/// A field's width in bytes and its range or its known flag bits, or a float.
 #[derive(Clone, Copy)]
 pub enum Field {
     Whole(usize, i64, i64),
+    Flags(usize, i64),
     Float,
 }
 
 impl Field {
     pub fn width(self) -> usize {
         match self {
-            Field::Whole(width, ..) => width,
+            Field::Whole(width, ..) | Field::Flags(width, _) => width,
             Field::Float => 4,
         }
     }
@@ -56,6 +57,12 @@ const S32: Field = Field::Whole(4, -0x8000_0000, 0x7FFF_FFFF);
 const SPEED: Field = Field::Whole(4, 0, 100_000);
 const MICRO: Field = Field::Whole(2, -255, 255);
 const POSITIVE: Field = Field::Whole(2, 1, 0xFFFF);
+const ENGINE_FLAGS: Field = Field::Flags(2, 0xFF);
+const POWER_FLAGS: Field = Field::Flags(1, 0x07);
+const BORDER_FLAGS: Field = Field::Flags(1, 0x0F);
+const ENDER_FLAGS: Field = Field::Flags(1, 0x07);
+const HOME_FLAGS: Field = Field::Flags(2, 0x1FF);
+const BRAKE_FLAGS: Field = Field::Flags(1, 0x03);
 
 /// A block: its name behind the letter of a set or a get.
 pub struct Row {
@@ -94,13 +101,13 @@ pub const ROWS: [Row; 7] = [
     Row { name: b"mov", fields: &[SPEED, U8, POSITIVE, POSITIVE, SPEED, U8], reserved: 10 },
     Row {
         name: b"eng",
-        fields: &[U16, Field::Whole(2, 15, 8000), Field::Whole(4, 1, 100_000), U8, U16, S16, Field::Whole(1, 1, 9), POSITIVE],
+        fields: &[U16, Field::Whole(2, 15, 8000), Field::Whole(4, 1, 100_000), U8, ENGINE_FLAGS, S16, Field::Whole(1, 1, 9), POSITIVE],
         reserved: 12,
     },
-    Row { name: b"pwr", fields: &[Field::Whole(1, 0, 100), U16, U16, U16, U8], reserved: 6 },
-    Row { name: b"eds", fields: &[U8, U8, S32, MICRO, S32, MICRO], reserved: 6 },
-    Row { name: b"hom", fields: &[SPEED, U8, SPEED, U8, S32, MICRO, U16], reserved: 9 },
-    Row { name: b"brk", fields: &[U16, U16, U16, U16, U8], reserved: 10 },
+    Row { name: b"pwr", fields: &[Field::Whole(1, 0, 100), U16, U16, U16, POWER_FLAGS], reserved: 6 },
+    Row { name: b"eds", fields: &[BORDER_FLAGS, ENDER_FLAGS, S32, MICRO, S32, MICRO], reserved: 6 },
+    Row { name: b"hom", fields: &[SPEED, U8, SPEED, U8, S32, MICRO, HOME_FLAGS], reserved: 9 },
+    Row { name: b"brk", fields: &[U16, U16, U16, U16, BRAKE_FLAGS], reserved: 10 },
     Row { name: b"pid", fields: &[U16, U16, U16, Field::Float, Field::Float, Field::Float], reserved: 24 },
 ];
 
@@ -119,6 +126,11 @@ pub fn bounds(width: usize, low: i64) -> (i64, i64) {
     }
 }
 
+/// The bits of a width that are set, each alone.
+fn single_bits(width: usize, set: i64) -> Vec<i64> {
+    (0..8 * width).map(|i| 1 << i).filter(|bit| set & bit != 0).collect()
+}
+
 fn good(random: &mut Random, field: Field) -> Vec<u8> {
     match field {
         Field::Whole(width, low, high) => {
@@ -131,6 +143,15 @@ fn good(random: &mut Random, field: Field) -> Vec<u8> {
             };
             value.to_le_bytes()[..width].to_vec()
         }
+        Field::Flags(width, known) => {
+            let flags = match random.below(4) {
+                0 => 0,
+                1 => known,
+                2 => random.pick(&single_bits(width, known)),
+                _ => random.word() as i64 & known,
+            };
+            flags.to_le_bytes()[..width].to_vec()
+        }
         Field::Float => {
             let mut bits = random.word() as u32;
             if bits >> 23 & 0xFF == 0xFF || random.percent(30) {
@@ -141,7 +162,7 @@ fn good(random: &mut Random, field: Field) -> Vec<u8> {
     }
 }
 
-/// A value out of the field's range, mostly one past it; `None` if it has none.
+/// A value out of the field's range, mostly one past it or with one unknown flag bit; `None` if the field takes every value.
 fn bad(random: &mut Random, field: Field) -> Option<Vec<u8>> {
     match field {
         Field::Whole(width, low, high) => {
@@ -157,6 +178,16 @@ fn bad(random: &mut Random, field: Field) -> Option<Vec<u8>> {
                 return None;
             }
             Some(random.pick(&past).to_le_bytes()[..width].to_vec())
+        }
+        Field::Flags(width, known) => {
+            let others = match random.below(5) {
+                0 => known,
+                1 => random.word() as i64 & known,
+                2 => random.word() as i64,
+                _ => 0,
+            };
+            let flags = random.pick(&single_bits(width, !known)) | others;
+            Some(flags.to_le_bytes()[..width].to_vec())
         }
         Field::Float => Some(random.pick(&NOT_FINITE).to_le_bytes().to_vec()),
     }
@@ -208,7 +239,7 @@ pub fn good_set(random: &mut Random) -> Vec<u8> {
 
 /// A set whose fields are out of range: one, or more of them.
 pub fn bad_set(random: &mut Random) -> Vec<u8> {
-    let number = random.pick(&[1, 2, 3, 4, 5, 7]);
+    let number = any_block(random);
     let wrong = random.pick(&[1, 1, 2, 3]);
     let data = data(random, number, wrong);
     row(number).framed(b's', &data)
@@ -306,5 +337,22 @@ mod tests {
     #[test]
     fn totals() {
         assert_eq!(ROWS.each_ref().map(Row::total), [30, 34, 20, 26, 33, 25, 48]);
+    }
+
+    /// In range known bits only: none, each alone, all. Out of range an unknown one: each alone, each with all known ones.
+    #[test]
+    fn flag_bits() {
+        let mut random = Random(1);
+        let number = |bytes: Vec<u8>| bytes.iter().rev().fold(0, |n, &byte| n << 8 | byte as i64);
+        for &field in ROWS.iter().flat_map(|row| row.fields) {
+            let Field::Flags(width, known) = field else { continue };
+            let inside: Vec<i64> = (0..1000).map(|_| number(good(&mut random, field))).collect();
+            let outside: Vec<i64> = (0..1000).map(|_| number(bad(&mut random, field).expect("a value"))).collect();
+            assert!(inside.iter().all(|flags| flags & !known == 0));
+            assert!(outside.iter().all(|flags| flags & !known != 0));
+            assert!(inside.contains(&0) && inside.contains(&known));
+            assert!(single_bits(width, known).iter().all(|bit| inside.contains(bit)));
+            assert!(single_bits(width, !known).iter().all(|bit| outside.contains(bit) && outside.contains(&(bit | known))));
+        }
     }
 }

@@ -336,11 +336,26 @@ mod tests {
         let mut board = Board::fresh();
         let sets = [
             Fields::Mov(Mov { speed: 100_000, u_speed: 255, accel: 1, decel: 65535, antiplay_speed: 7, u_antiplay_speed: 8 }),
-            Fields::Eng(Eng { nom_current: 8000, nom_speed: 1, antiplay: -2, microstep_mode: 9, steps_per_rev: 200, ..Eng::default() }),
-            Fields::Pwr(Pwr { hold_current: 100, current_set_time: 300, ..Pwr::default() }),
-            Fields::Eds(Eds { left_border: i32::MIN, u_left_border: -255, u_right_border: 255, ..Eds::default() }),
+            Fields::Eng(Eng {
+                nom_current: 8000,
+                nom_speed: 1,
+                engine_flags: 0xFF,
+                antiplay: -2,
+                microstep_mode: 9,
+                steps_per_rev: 200,
+                ..Eng::default()
+            }),
+            Fields::Pwr(Pwr { hold_current: 100, current_set_time: 300, power_flags: 0x07, ..Pwr::default() }),
+            Fields::Eds(Eds {
+                border_flags: 0x0F,
+                ender_flags: 0x07,
+                left_border: i32::MIN,
+                u_left_border: -255,
+                u_right_border: 255,
+                ..Eds::default()
+            }),
             Fields::Hom(Hom { slow_home: 100_000, home_delta: -1, u_home_delta: -255, home_flags: 0x1FF, ..Hom::default() }),
-            brake(65535),
+            Fields::Brk(Brk { t1: 65535, brake_flags: 0x03, ..Brk::default() }),
             Fields::Pid(Pid { kd_u: 3, kpf: -0.0, kif: f32::MAX, kdf: f32::from_bits(1), ..Pid::default() }),
         ];
         for fields in sets {

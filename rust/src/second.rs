@@ -1,4 +1,5 @@
-//! A second receiver, written from sheet 01, with no code or table of the library. It goes byte by byte and keeps each block as the data section that a get sends.
+//! A second receiver, written from sheets 01 and 02, with no code or table of the library. It goes byte by byte and keeps each block as
+//! the data section that a get sends.
 //! It can be broken on purpose (`Fault`), to see that a comparison notices.
 
 macro_rules! faults {
@@ -47,6 +48,11 @@ faults! {
     EmptySetsStamp = "empty-sets-stamp",
     ReservedKept = "reserved-kept",
     InfinityPasses = "infinity-passes",
+    // A field's flag bits
+    UnknownBitPasses = "unknown-bit-passes",
+    KnownBitRefused = "known-bit-refused",
+    UnknownBitMisnumbered = "unknown-bit-misnumbered",
+    UnknownBitLast = "unknown-bit-last",
     // A state accepted that breaks one rule of soundness
     ZeroBegins = "unsound-zero-first",
     AnyNameBegins = "unsound-name",
@@ -54,9 +60,11 @@ faults! {
     CountOver48 = "unsound-count",
     FlagsOver7 = "unsound-flags",
     FieldOutOfRange = "unsound-field",
+    UnknownBit = "unsound-unknown-bit",
     // A host's writer
     HostRangeSkipped = "host-range-skipped",
     HostRangeOneOff = "host-range-one-off",
+    HostUnknownBitPasses = "host-unknown-bit-passes",
     HostReservedSent = "host-reserved-sent",
     HostCrcHighByteFirst = "host-crc-high-byte-first",
     HostRoomBeforeRange = "host-room-before-range",
@@ -172,21 +180,34 @@ fn bad_field(block: usize, data: &[u8; DATA], fault: Fault) -> usize {
             test(5, u32_at(9) > 100_000);
         }
         2 => {
+            let unknown = u16_at(9) & !0xFF != 0;
             test(2, !(15..=8000).contains(&u16_at(2)));
             test(3, !(1..=100_000).contains(&u32_at(4)));
+            test(5, unknown && fault != Fault::UnknownBitLast);
             test(7, !(1..=9).contains(&data[13]));
             test(8, u16_at(14) == 0);
+            test(5, unknown && fault == Fault::UnknownBitLast);
         }
-        3 => test(1, data[0] > 100),
+        3 => {
+            let known = if fault == Fault::UnknownBitPasses { 0x0F } else { 0x07 };
+            test(1, data[0] > 100);
+            test(5, data[7] & !known != 0);
+        }
         4 => {
+            let ender = if fault == Fault::UnknownBitMisnumbered { 1 } else { 2 };
+            test(1, data[0] & !0x0F != 0);
+            test(ender, data[1] & !0x07 != 0);
             test(4, past_255(6));
             test(6, past_255(12));
         }
         5 => {
+            let known = if fault == Fault::KnownBitRefused { 0xFF } else { 0x1FF };
             test(1, u32_at(0) > 100_000);
             test(3, u32_at(5) > 100_000);
             test(6, past_255(14));
+            test(7, u16_at(16) & !known != 0);
         }
+        6 => test(5, data[8] & !0x03 != 0),
         7 => {
             test(4, not_finite(6));
             test(5, not_finite(10));
@@ -246,8 +267,13 @@ impl Second {
         if self.flags > 7 {
             return Some(Fault::FlagsOver7);
         }
-        if (1..=7).any(|block| bad_field(block, &self.data[block - 1], fault) != 0) {
-            return Some(Fault::FieldOutOfRange);
+        for block in 1..=7 {
+            match (block, bad_field(block, &self.data[block - 1], fault)) {
+                (_, 0) => {}
+                // The flag fields
+                (2 | 3 | 6, 5) | (4, 1 | 2) | (5, 7) => return Some(Fault::UnknownBit),
+                _ => return Some(Fault::FieldOutOfRange),
+            }
         }
         None
     }
@@ -479,6 +505,33 @@ mod tests {
         assert_eq!((second.refused, second.flags, second.data[0][0]), ((1, 3), 6, 0));
         assert_eq!(offer(&mut second, &set(b"spwr", &[0xFF; 2], 12, [0, 0]), 0).0, b"errv");
         assert_eq!(second.refused, (3, 1));
+    }
+
+    /// Each bit of each flag field alone: the field that is bad, and whether the state is sound.
+    #[test]
+    fn flag_bits() {
+        // Block, field, its place and bits, the known ones.
+        let flags =
+            [(2, 5, 9, 16, 0xFF), (3, 5, 7, 8, 0x07), (4, 1, 0, 8, 0x0F), (4, 2, 1, 8, 0x07), (5, 7, 16, 16, 0x1FF), (6, 5, 8, 8, 0x03)];
+        for (block, field, at, bits, known) in flags {
+            for bit in 0..bits {
+                let mut second = Second::fresh();
+                let data = &mut second.data[block - 1];
+                data[at + bit / 8] |= 1 << (bit % 8);
+                let (bad, number) = if known >> bit & 1 == 1 { (0, 0) } else { (field, 3) };
+                assert_eq!(bad_field(block, data, Fault::None), bad);
+                assert_eq!(second.call(b"", 0, &mut [0; 48]).number, number);
+            }
+        }
+    }
+
+    #[test]
+    fn flags_in_numbered_order() {
+        let mut eng = Second::fresh().data[1];
+        for (at, field) in [(13, 7), (10, 5), (7, 3)] {
+            eng[at] = 0xFF;
+            assert_eq!(bad_field(2, &eng, Fault::None), field);
+        }
     }
 
     #[test]

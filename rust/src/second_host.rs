@@ -47,6 +47,7 @@ fn in_range(fault: Fault, number: usize, data: &[u8]) -> bool {
                 let off = fault == Fault::HostRangeOneOff && (number, i) == (5, 5);
                 (low..=high + off as i64).contains(&value(bytes, low))
             }
+            Field::Flags(_, known) => fault == Fault::HostUnknownBitPasses || value(bytes, 0) & !known == 0,
             // The exponent's bits, seven in the last byte and one in the byte before it, are not all ones.
             Field::Float => bytes[3] & 0x7F != 0x7F || bytes[2] & 0x80 == 0,
         }
@@ -148,6 +149,7 @@ pub fn read(fault: Fault, bytes: &[u8]) -> Result<(Answer, usize), u8> {
 #[cfg(test)]
 mod tests {
     use super::*;
+    use crate::second::Second;
 
     /// 01's frame of brk with t1 65535, behind the letter of a set or a get.
     fn brake_frame(letter: u8) -> Vec<u8> {
@@ -177,6 +179,20 @@ mod tests {
         let gain = |bits: u32| [&[0; 14], &bits.to_le_bytes()[..], &[0; 24]].concat();
         for (bits, good) in [(0x7F7F_FFFF, true), (0x7F80_0000, false), (0xFFC0_0000, false), (0x8000_0000, true)] {
             assert_eq!(in_range(Fault::None, 7, &gain(bits)), good);
+        }
+    }
+
+    /// Each bit of each flag field alone.
+    #[test]
+    fn flag_bits() {
+        // Block, the flags' place and bits, the known ones.
+        let flags = [(2, 9, 16, 0xFF), (3, 7, 8, 0x07), (4, 0, 8, 0x0F), (4, 1, 8, 0x07), (5, 16, 16, 0x1FF), (6, 8, 8, 0x03)];
+        for (number, at, bits, known) in flags {
+            for bit in 0..bits {
+                let mut data = Second::fresh().data[number - 1];
+                data[at + bit / 8] |= 1 << (bit % 8);
+                assert_eq!(in_range(Fault::None, number, &data), known >> bit & 1 == 1);
+            }
         }
     }
 

@@ -68,7 +68,8 @@ impl Brk {
     pub fn first_bad(self) -> usize
         ensures { λ r. ⌜ r ≡ firstBad brkRow (brkNumbers self) ⌝ }
     {
-        0
+        let ns = self.numbers();
+        wire::first_false(&[true, true, true, true, wire::has_only_bits(0x03, ns[4])])
     }
 
     pub fn fresh() -> Brk

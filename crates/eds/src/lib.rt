@@ -74,8 +74,8 @@ impl Eds {
         let ns = self.numbers();
         wire::first_false(
             &[
-                true,
-                true,
+                wire::has_only_bits(0x0F, ns[0]),
+                wire::has_only_bits(0x07, ns[1]),
                 true,
                 wire::is_signed_within(255, ns[3]),
                 true,

@@ -84,7 +84,7 @@ impl Eng {
                 wire::is_within(15, 8000, ns[1]),
                 wire::is_within(1, 100000, ns[2]),
                 true,
-                true,
+                wire::has_only_bits(0xFF, ns[4]),
                 true,
                 wire::is_within(1, 9, ns[6]),
                 wire::is_within(1, 65535, ns[7]),

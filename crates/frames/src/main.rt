@@ -1,6 +1,7 @@
 // Runs frames on the library and prints of each call: number, taken, written, order, reply. The cases of 01, "Frames on the bench", that are
 // not starred; a board that breaks each rule of soundness; for every block a good set with its get, a wrong CRC, every range at its edges;
-// and the host's requests (requests.rt).
+// every bit of every flag field (flags.rt); and the host's requests (requests.rt).
+mod flags;
 mod print;
 mod requests;
 
@@ -39,12 +40,18 @@ fn show(about: &[u8], board: Board, piece: &[u8]) -> Board {
     show_in(about, board, piece, &mut reply)
 }
 
-// A set's frame: the block's fresh values with one number at a place, and the CRC with something added.
-fn framed(name: u32, block: usize, place: usize, width: usize, n: u64, off: u8) -> [u8; 48] {
+// A block's data section: its fresh values with one number at a place.
+fn section_with(block: usize, place: usize, width: usize, n: u64) -> [u8; 48] {
     let mut section = [0u8; 48];
     let fresh = Settings::fresh();
     fresh.get(block, &mut section);
     wire::put(&mut section, place, width, n);
+    section
+}
+
+// The set's frame of that section, and the CRC with something added.
+fn framed(name: u32, block: usize, place: usize, width: usize, n: u64, off: u8) -> [u8; 48] {
+    let section = section_with(block, place, width, n);
     let size = print::least(unit::names::total_of(block) - 6, 42);
     let sum = crc::crc(&section[..size]) as u64 + off as u64;
     let mut frame = [0u8; 48];
@@ -69,12 +76,16 @@ fn show_set(
     show(about, receiver::fresh(), &frame[..size])
 }
 
-// A good set and its get, and the set with a wrong CRC.
-fn show_block(about: &[u8], set: u32, get: u32, block: usize) {
-    let board = show_set(about, set, block, 0, 0, 0, 0);
+fn show_get(about: &[u8], board: Board, get: u32) {
     let mut name = [0u8; 4];
     wire::put(&mut name, 0, 4, get as u64);
     show(about, board, &name);
+}
+
+// A good set and its get, and the set with a wrong CRC.
+fn show_block(about: &[u8], set: u32, get: u32, block: usize) {
+    let board = show_set(about, set, block, 0, 0, 0, 0);
+    show_get(about, board, get);
     show_set(about, set, block, 0, 0, 0, 1);
 }
 
@@ -239,5 +250,6 @@ fn main() {
     show_engine();
     show_borders();
     show_gains();
+    flags::show_all();
     requests::show_all();
 }

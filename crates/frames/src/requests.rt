@@ -95,7 +95,7 @@ fn show_reading(reading: Reading) {
 }
 
 // The writer's number and length; the length.
-fn show_written(written: Written) -> usize {
+pub fn show_written(written: Written) -> usize {
     match written {
         Written::Frame(length) => {
             print::decimal(0);
@@ -227,7 +227,7 @@ fn a_brk() -> Brk {
         t2: 1,
         t3: 2,
         t4: 3,
-        brakeFlags: 4,
+        brakeFlags: 3,
     }
 }
 

@@ -83,7 +83,7 @@ impl Hom {
                 true,
                 true,
                 wire::is_signed_within(255, ns[5]),
-                true,
+                wire::has_only_bits(0x1FF, ns[6]),
             ],
         )
     }

@@ -69,7 +69,15 @@ impl Pwr {
         ensures { λ r. ⌜ r ≡ firstBad pwrRow (pwrNumbers self) ⌝ }
     {
         let ns = self.numbers();
-        wire::first_false(&[wire::is_within(0, 100, ns[0]), true, true, true, true])
+        wire::first_false(
+            &[
+                wire::is_within(0, 100, ns[0]),
+                true,
+                true,
+                true,
+                wire::has_only_bits(0x07, ns[4]),
+            ],
+        )
     }
 
     pub fn fresh() -> Pwr

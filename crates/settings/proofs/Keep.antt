@@ -8,7 +8,7 @@ use lib.Ieee.{toBits, ofBits}
 use lib.ListN.{length, getD}
 use borrow.Author.Tests.{eqb-true, ne-eqb}
 use Rattle.wire.specs.Layout.{sum, Room}
-use Rattle.wire.specs.Tests.{within, signedWithin, finite, firstFalse}
+use Rattle.wire.specs.Tests.{within, signedWithin, finite, onlyBits, firstFalse}
 use Rattle.sheet.specs.Sheet.{Row, movRow, engRow, pwrRow, edsRow, homRow, brkRow, pidRow}
 use Rattle.sheet.specs.Rows.{rowAt, rowIn, widths, numbersIn, dataOf, firstBad, canonical, least}
 use Rattle.sheet.proofs.Laws.{sent-again, numbers-fit}
@@ -126,7 +126,7 @@ module _ (P : Row → List ℕ → Type 0) (s : Settings) (k : ℕ) where
       none))))))
 
 pub good-fresh : Good freshSettings
-unfolding least within signedWithin finite toBits ofBits firstFalse
+unfolding least within signedWithin finite onlyBits toBits ofBits firstFalse
 good-fresh k = each (λ (r : Row) (x : List ℕ). firstBad r x ≡ 0) freshSettings k refl refl refl refl refl refl refl refl
 
 -- ---- the test over the sheet

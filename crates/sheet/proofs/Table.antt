@@ -5,7 +5,7 @@ use mathlib.Core.List.{[], _∷_, map}
 use Prim.Native.Nat.{ℕ, _≤_}
 use native.Mathlib.Omega.{arith}
 use lib.Dec.{eqb}
-use Rattle.wire.specs.Tests.{within, signedWithin, finite, firstFalse}
+use Rattle.wire.specs.Tests.{within, signedWithin, finite, onlyBits, firstFalse}
 use Rattle.sheet.specs.Sheet.{Row, sheet, movRow, engRow, pwrRow, edsRow, homRow, brkRow, pidRow}
 use Rattle.sheet.specs.Rows.{total, firstBad, fresh, least, rowAt, rowIn}
 
@@ -33,12 +33,12 @@ pub fresh-values : map fresh sheet
     ∷ (0 ∷ 0 ∷ 0 ∷ 0 ∷ 0 ∷ [])
     ∷ (0 ∷ 0 ∷ 0 ∷ 0 ∷ 0 ∷ 0 ∷ [])
     ∷ []
-unfolding least within signedWithin finite
+unfolding least within signedWithin finite onlyBits
 fresh-values = refl
 
 -- on a fresh board every field is in its range
 pub fresh-good : map (λ (r : Row). firstBad r (fresh r)) sheet ≡ 0 ∷ 0 ∷ 0 ∷ 0 ∷ 0 ∷ 0 ∷ 0 ∷ []
-unfolding least within signedWithin finite firstFalse
+unfolding least within signedWithin finite onlyBits firstFalse
 fresh-good = refl
 
 -- ---- what holds of each row holds of the row of a number

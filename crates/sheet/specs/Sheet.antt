@@ -1,8 +1,9 @@
--- Sheet 01's table of blocks, row by row in its sequence. Above each row stands what 01 says; totals are derived (Rows, `total`).
+-- Sheet 01's table of blocks, row by row in its sequence. Above each row stands what 01 says, and what 02 says of its flags; totals are derived
+-- (Rows, `total`).
 use mathlib.Core.Bool.{Bool}
 use mathlib.Core.List.{List, [], _∷_}
 use Prim.Native.Nat.{ℕ}
-use Rattle.wire.specs.Tests.{any, within, signedWithin, finite}
+use Rattle.wire.specs.Tests.{any, within, signedWithin, finite, onlyBits}
 use Rattle.sheet.specs.Names.{named}
 
 -- a field: its width in bytes, and the test of its number as it stands on the wire, where it is unsigned
@@ -57,6 +58,7 @@ movRow =
 
 -- | 2 | eng | 34 | NomVoltage U16, NomCurrent U16 15..8000, NomSpeed U32 1..100000, uNomSpeed U8, EngineFlags U16, Antiplay S16,
 --                  MicrostepMode U8 1..9, StepsPerRev U16 1..65535 | 12 |
+-- 02, P2: "Known bits: EngineFlags 0xFF"
 abbrev pub engRow : Row
 engRow =
     record {
@@ -68,7 +70,7 @@ engRow =
           ∷ U16 (within 15 8000)  -- NomCurrent
           ∷ U32 (within 1 100000)  -- NomSpeed
           ∷ U8 any  -- uNomSpeed
-          ∷ U16 any  -- EngineFlags
+          ∷ U16 (onlyBits 0xFF)  -- EngineFlags
           ∷ S16 any  -- Antiplay
           ∷ U8 (within 1 9)  -- MicrostepMode
           ∷ U16 (within 1 65535)  -- StepsPerRev
@@ -77,6 +79,7 @@ engRow =
     }
 
 -- | 3 | pwr | 20 | HoldCurrent U8 0..100, CurrReductDelay U16, PowerOffDelay U16, CurrentSetTime U16, PowerFlags U8 | 6 |
+-- 02, P2: "PowerFlags 0x07"
 abbrev pub pwrRow : Row
 pwrRow =
     record {
@@ -88,12 +91,13 @@ pwrRow =
           ∷ U16 any  -- CurrReductDelay
           ∷ U16 any  -- PowerOffDelay
           ∷ U16 any  -- CurrentSetTime
-          ∷ U8 any  -- PowerFlags
+          ∷ U8 (onlyBits 0x07)  -- PowerFlags
           ∷ [];
       reserved = 6;
     }
 
 -- | 4 | eds | 26 | BorderFlags U8, EnderFlags U8, LeftBorder S32, uLeftBorder S16 -255..255, RightBorder S32, uRightBorder S16 -255..255 | 6 |
+-- 02, P2: "BorderFlags 0x0F, EnderFlags 0x07"
 abbrev pub edsRow : Row
 edsRow =
     record {
@@ -101,8 +105,8 @@ edsRow =
       setName = named "seds";
       getName = named "geds";
       fields =
-          U8 any  -- BorderFlags
-          ∷ U8 any  -- EnderFlags
+          U8 (onlyBits 0x0F)  -- BorderFlags
+          ∷ U8 (onlyBits 0x07)  -- EnderFlags
           ∷ S32 any  -- LeftBorder
           ∷ S16 (signedWithin 255)  -- uLeftBorder
           ∷ S32 any  -- RightBorder
@@ -113,6 +117,7 @@ edsRow =
 
 -- | 5 | hom | 33 | FastHome U32 0..100000, uFastHome U8, SlowHome U32 0..100000, uSlowHome U8, HomeDelta S32, uHomeDelta S16 -255..255,
 --                  HomeFlags U16 | 9 |
+-- 02, P2: "HomeFlags 0x1FF"
 abbrev pub homRow : Row
 homRow =
     record {
@@ -126,12 +131,13 @@ homRow =
           ∷ U8 any  -- uSlowHome
           ∷ S32 any  -- HomeDelta
           ∷ S16 (signedWithin 255)  -- uHomeDelta
-          ∷ U16 any  -- HomeFlags
+          ∷ U16 (onlyBits 0x1FF)  -- HomeFlags
           ∷ [];
       reserved = 9;
     }
 
 -- | 6 | brk | 25 | t1 U16, t2 U16, t3 U16, t4 U16, BrakeFlags U8 | 10 |
+-- 02, P2: "BrakeFlags 0x03"
 abbrev pub brkRow : Row
 brkRow =
     record {
@@ -143,7 +149,7 @@ brkRow =
           ∷ U16 any  -- t2
           ∷ U16 any  -- t3
           ∷ U16 any  -- t4
-          ∷ U8 any  -- BrakeFlags
+          ∷ U8 (onlyBits 0x03)  -- BrakeFlags
           ∷ [];
       reserved = 10;
     }

@@ -9,7 +9,7 @@ use lib.ListN.{replicate}
 use Rattle.crc.specs.Crc.{crcBit, crcBits, crcByte, crcFrom, crcOf}
 use Rattle.wire.specs.Numbers.{leAt, leBytes}
 use Rattle.wire.specs.Layout.{laid}
-use Rattle.wire.specs.Tests.{within, firstFalse}
+use Rattle.wire.specs.Tests.{within, onlyBits, firstFalse}
 use Rattle.frame.specs.Frame.{intact}
 use Rattle.sheet.specs.Rows.{least}
 use Rattle.settings.specs.Settings.{numbersAt}
@@ -122,7 +122,7 @@ cases =
     ∷ []
 
 pub starred : Each cases
-unfolding crcBit crcBits crcByte crcFrom leAt leBytes laid within firstFalse least setBlock getBlock orderKind kindOf need intact gets checked puts does act
+unfolding crcBit crcBits crcByte crcFrom leAt leBytes laid within onlyBits firstFalse least setBlock getBlock orderKind kindOf need intact gets checked puts does act
     wait late onward lastStamp front units deal wholeRun
 starred =
     row refl (row refl (row refl (row refl (row refl

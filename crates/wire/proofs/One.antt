@@ -16,6 +16,7 @@ use Rattle.wire.proofs.bits_of.Reads as bits-of
 use Rattle.wire.proofs.is_within.Reads as is-within
 use Rattle.wire.proofs.is_signed_within.Reads as is-signed-within
 use Rattle.wire.proofs.is_finite.Reads as is-finite
+use Rattle.wire.proofs.has_only_bits.Reads as has-only-bits
 use Rattle.wire.proofs.first_false.Reads as first-false
 use Rattle.wire.proofs.put.Reads as put
 use Rattle.wire.proofs.lay.Reads as lay
@@ -65,6 +66,9 @@ is-signed-within-one κs a r r' s s' p q = p ∙ sym q
 
 pub is-finite-one : Leaves is-finite.Post (λ κs r s. r)
 is-finite-one κs a r r' s s' p q = p ∙ sym q
+
+pub has-only-bits-one : Leaves has-only-bits.Post (λ κs r s. r)
+has-only-bits-one κs a r r' s s' p q = p ∙ sym q
 
 pub first-false-one : Leaves first-false.Post (λ κs r s. r)
 first-false-one κs a r r' s s' p q = p ∙ sym q

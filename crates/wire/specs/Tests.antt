@@ -2,9 +2,10 @@
 use mathlib.Core.Bool.{Bool, true, false, not, _&&_, _||_}
 use mathlib.Core.List.{List, [], _∷_}
 use lib.Dec.{leb, eqb}
-use Prim.Native.Nat.{ℕ, _+_, _-_, _/_, _%_}
+use lib.Bits.{bitAnd}
+use Prim.Native.Nat.{ℕ, _+_, _-_, _/_, _%_, _^_}
 
--- "A field without a range takes every value of its width"
+-- "A field without a range takes every value of its width", but for flag fields, of which 02, P2 says otherwise (`onlyBits`)
 abbrev pub any : ℕ → Bool
 any n = true
 
@@ -19,6 +20,14 @@ signedWithin k n = leb n k || leb (65536 - k) n
 -- "each must be finite (exponent bits not all ones)"
 unfoldable pub finite : ℕ → Bool
 finite n = not (eqb (n % 2147483648 / 8388608) 255)
+
+-- the bit k of a number, counted from the low end
+abbrev pub bit : ℕ → ℕ → ℕ
+bit n k = n / 2 ^ k % 2
+
+-- 02, P2: "a set flag bit outside 004's list makes its field out of range": the number has no bit outside the mask (proofs, `only-bits-is`)
+unfoldable pub onlyBits : ℕ → ℕ → Bool
+onlyBits mask n = eqb (bitAnd n mask) n
 
 -- the place, counted from n on, of the first test that failed, or 0
 unfoldable pub firstFalse : ℕ → List Bool → ℕ

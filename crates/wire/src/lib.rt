@@ -9,7 +9,7 @@ ghost use mir.Syntax.{w16, w32};
 ghost use mir.Val.{toZ, ofZ};
 ghost use Rattle.wire.specs.Numbers.{leAt, leBytes};
 ghost use Rattle.wire.specs.Layout.{laid};
-ghost use Rattle.wire.specs.Tests.{within, signedWithin, finite, firstFalse};
+ghost use Rattle.wire.specs.Tests.{within, signedWithin, finite, onlyBits, firstFalse};
 
 // ---- reading
 
@@ -160,6 +160,13 @@ pub fn is_finite(n: u64) -> bool
     ensures { λ r. ⌜ r ≡ finite n ⌝ }
 {
     n % 2147483648 / 8388608 != 255
+}
+
+// A number with no bit outside the mask.
+pub fn has_only_bits(mask: u64, n: u64) -> bool
+    ensures { λ r. ⌜ r ≡ onlyBits mask n ⌝ }
+{
+    n & mask == n
 }
 
 // The number, from 1, of the first test that failed, or 0.

@@ -371,7 +371,7 @@ fn beginning(random: &mut Random) -> Vec<u8> {
 fn change(random: &mut Random) -> Change {
     match random.below(16) {
         0..=5 => {
-            let block = random.pick(&[1, 2, 3, 4, 5, 7]);
+            let block = frames::any_block(random);
             Change::Data(block, frames::data(random, block, 1))
         }
         6 => Change::Flags(random.pick(&[7, 8, 9, 128, 255, 256, usize::MAX])),

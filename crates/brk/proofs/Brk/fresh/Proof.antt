@@ -1,11 +1,12 @@
 -- `brk::Brk::fresh` meets its contract: each field is the least that its test takes. Assumes nothing.
 use mathlib.Core.Path.{refl}
+use Rattle.wire.specs.Tests.{onlyBits}
 use Rattle.sheet.specs.Rows.{least}
 use Rattle.brk.proofs.Brk.fresh.Statement.{statement}
 use Rattle.brk.proofs.Brk.fresh.Tie as tie
 
 returns : tie.Need-returns
-unfolding least
+unfolding least onlyBits
 returns c = refl
 
 pub fresh-spec : {M : Type 1} → statement M

@@ -1,12 +1,12 @@
 -- `eds::Eds::fresh` meets its contract: each field is the least that its test takes. Assumes nothing.
 use mathlib.Core.Path.{refl}
-use Rattle.wire.specs.Tests.{signedWithin}
+use Rattle.wire.specs.Tests.{signedWithin, onlyBits}
 use Rattle.sheet.specs.Rows.{least}
 use Rattle.eds.proofs.Eds.fresh.Statement.{statement}
 use Rattle.eds.proofs.Eds.fresh.Tie as tie
 
 returns : tie.Need-returns
-unfolding least signedWithin
+unfolding least signedWithin onlyBits
 returns c = refl
 
 pub fresh-spec : {M : Type 1} → statement M

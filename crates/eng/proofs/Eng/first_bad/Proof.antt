@@ -7,12 +7,14 @@ use Rattle.eng.proofs.Eng.first_bad.Statement.{statement}
 use Rattle.eng.proofs.Eng.first_bad.Tie as tie
 
 returns : tie.Need-returns
-returns c = c .first-false .ensures ∙ rw (c .before .before .before .before .before .is-within .ensures, c .before .before .before .before .is-within2 .ensures, c .before .before .before .is-within3 .ensures, c .before .before .is-within4 .ensures) (ap (firstBad engRow) (c .before .before .before .before .before .before .numbers .ensures))
+returns c = c .first-false .ensures ∙ rw (c .before .before .before .before .before .before .is-within .ensures, c .before .before .before .before .before .is-within2 .ensures, c .before .before .before .before .has-only-bits .ensures, c .before .before .before .is-within3 .ensures, c .before .before .is-within4 .ensures) (ap (firstBad engRow) (c .before .before .before .before .before .before .before .numbers .ensures))
 
 pub first-bad-spec : {M : Type 1} → statement M
 first-bad-spec =
     tie.close
     (tie.spec
+    (λ c κs. search needs)
+    (λ c. search needs)
     (λ c κs. search needs)
     (λ c. search needs)
     (λ c κs. search needs)

@@ -1,12 +1,12 @@
 -- `hom::Hom::fresh` meets its contract: each field is the least that its test takes. Assumes nothing.
 use mathlib.Core.Path.{refl}
-use Rattle.wire.specs.Tests.{within, signedWithin}
+use Rattle.wire.specs.Tests.{within, signedWithin, onlyBits}
 use Rattle.sheet.specs.Rows.{least}
 use Rattle.hom.proofs.Hom.fresh.Statement.{statement}
 use Rattle.hom.proofs.Hom.fresh.Tie as tie
 
 returns : tie.Need-returns
-unfolding least within signedWithin
+unfolding least within signedWithin onlyBits
 returns c = refl
 
 pub fresh-spec : {M : Type 1} → statement M
