@@ -49,7 +49,7 @@ enum {
     RIVERTOSKU_VALUE_ERROR = 4    /* errv: a set with a field out of range */
 };
 
-/* A flag bit that is not known makes its field out of range. */
+/* The blocks. A flag field with a bit set besides its known bits is out of range. */
 
 /* Block 1: speeds 0..100000, accel and decel 1..65535. */
 struct rivertosku_mov {
