@@ -3,6 +3,7 @@ use mathlib.Core.Path.{sym, _∙_}
 use Rattle.promise.specs.Promise.{Leaves}
 use Rattle.board.proofs.rivertosku_fresh.Reads as rivertosku-fresh
 use Rattle.board.proofs.rivertosku_receive.Reads as rivertosku-receive
+use Rattle.board.proofs.rivertosku_report_clock.Reads as rivertosku-report-clock
 
 pub rivertosku-fresh-one : Leaves rivertosku-fresh.Post (λ κs r s. r)
 rivertosku-fresh-one κs a r r' s s' p q = p ∙ sym q
@@ -13,3 +14,6 @@ rivertosku-receive-one κs a r r' s s' p q = p .result ∙ sym (q .result)
 
 pub rivertosku-receive-bytes-one : Leaves rivertosku-receive.Post (λ κs r s. s .1 .1 .1 .0 .now)
 rivertosku-receive-bytes-one κs a r r' s s' p q = p .reply ∙ sym (q .reply)
+
+pub rivertosku-report-clock-one : Leaves rivertosku-report-clock.Post (λ κs r s. r)
+rivertosku-report-clock-one κs a r r' s s' p q = p ∙ sym q

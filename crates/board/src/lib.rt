@@ -1,10 +1,12 @@
-// The receiver as C and Rust link it: the same two functions under plain names, the order as 01's number.
+// The receiver as C and Rust link it: the same three functions under plain names, the order as 01's number.
 use receiver::Board;
+use receiver::Report;
 ghost use mathlib.Core.Path.{_≡_};
 ghost use lib.ListN.{length};
 ghost use Rattle.rule.specs.Calls.{call};
 ghost use Rattle.unit.specs.Protocol.{protocol, freshState};
 ghost use Rattle.receiver.specs.State.{stateOf, boardOf};
+ghost use Rattle.receiver.specs.Report.{reported};
 ghost use Rattle.board.specs.Answer.{Answered};
 
 // What a call answers, flat.
@@ -45,4 +47,12 @@ pub extern "C" fn rivertosku_receive(
         written: call.written,
         board: next,
     }
+}
+
+// One report of the time: what is unfinished is dropped where its last byte is too long ago.
+#[no_mangle]
+pub extern "C" fn rivertosku_report_clock(board: Board, now: u32) -> Report
+    ensures { λ r. ⌜ r ≡ reported board now ⌝ }
+{
+    receiver::report_clock(board, now)
 }

@@ -1,8 +1,9 @@
 // Runs frames on the library and prints of each call: number, taken, written, order, reply. The cases of 01, "Frames on the bench", that are
 // not starred; a board that breaks each rule of soundness; for every block a good set with its get, a wrong CRC, every range at its edges;
-// every bit of every flag field (flags.rt); and the host's requests (requests.rt).
+// every bit of every flag field (flags.rt); the host's requests (requests.rt); and reports of the time among calls (reports.rt).
 mod flags;
 mod print;
+mod reports;
 mod requests;
 
 use brk::Brk;
@@ -252,4 +253,5 @@ fn main() {
     show_gains();
     flags::show_all();
     requests::show_all();
+    reports::show_all();
 }

@@ -1,5 +1,5 @@
--- Requests as one run of bytes on the line, each byte behind its own stamp, offered in any cutting: what is read back is the same. In quotation
--- marks: sheet 01. Assumes nothing.
+-- Requests as one run of bytes on the line, each byte behind its own stamp, offered in any cutting, and the time reported in between: what is read
+-- back is the same. In quotation marks: sheet 01. Assumes nothing.
 use mathlib.Core.Path.{_≡_, refl, sym, ap, subst, _∙_}
 use mathlib.Core.List.{List, [], _∷_, _++_}
 use Prim.Native.Nat.{ℕ, suc}
@@ -16,6 +16,7 @@ use Rattle.unit.specs.Unit.{Memory, Event, act}
 use Rattle.unit.specs.Protocol.{protocol}
 use Rattle.unit.specs.declared.names.Order.{Order}
 use Rattle.unit.proofs.Need.{need-law}
+use Rattle.unit.proofs.Clock.{NoneOverdue, onlyBytes, none-overdue}
 use Rattle.receiver.specs.State.{boardOf}
 use Rattle.receiver.specs.declared.Board.{Board}
 use Rattle.receiver.proofs.Demands.{Offered, offered-steps}
@@ -73,14 +74,15 @@ sendable-typed : (qs : List Request) → Sendable qs → TypedAll qs
 sendable-typed [] good = tt
 sendable-typed (q ∷ qs) good = (good .0 .0, sendable-typed qs (good .1))
 
--- a board with nothing unfinished, as a fresh board is and as each call leaves it that ends a unit
+-- a board with nothing unfinished, as a fresh board is and as each call leaves it that ends a unit; the run has the requests' bytes, and reports of
+-- the time that are not overdue where they come
 module _ {b : Board} {m : Memory} {t : ℕ} (is : b ≡ boardOf (stateAt m [] t)) (xs : List Sent) (good : Sendable (requestsOf xs))
-    {x : Said Order Board} (offered : Offered b (runOf xs) x) where
+    {run : List (Item Event)} (sent : onlyBytes run ≡ runOf xs) (told : NoneOverdue (stateAt m [] t) run) {x : Said Order Board} (offered : Offered b run x) where
   abbrev qs : List Request
   qs = requestsOf xs
 
-  done : Answered m qs (steps protocol (stateAt m [] t) (runOf xs))
-  done = run-answered xs m t good
+  done : Answered m qs (steps protocol (stateAt m [] t) run)
+  done = rw (none-overdue run (stateAt m [] t) told, sent) (run-answered xs m t good)
 
   -- the orders are given, in sequence
   pub cut-orders : x .orders ≡ ordersOf qs

@@ -1,8 +1,8 @@
--- The demands, over what the contracts of the two public functions themselves say. In quotation marks: sheet 01, and the demands by number.
+-- The demands, over what the contracts of the public functions themselves say. In quotation marks: sheet 01, and the demands by number.
 -- Assumes nothing.
 use Prim.Native.Nat.{ℕ, _-_, _<_, _≤_}
 use mathlib.Core.Path.{_≡_, refl, ap, sym, subst, _∙_}
-use mathlib.Core.Bool.{true, cond}
+use mathlib.Core.Bool.{Bool, true, false, cond}
 use mathlib.Core.List.{List, [], _∷_, _++_}
 use native.Mathlib.Omega.{arith}
 use denote.Ref.{RefT, now}
@@ -12,37 +12,44 @@ use lib.Seq.{take-append-seam, drop-append-seam}
 use Rattle.promise.specs.Promise.{Leaves}
 use Rattle.frame.specs.Frame.{dataIn}
 use Rattle.sheet.specs.Rows.{rowAt, canonical}
-use Rattle.rule.specs.Run.{Item, byte, bytes, at}
+use Rattle.rule.specs.Run.{Item, byte, event, bytes, at}
 use Rattle.rule.specs.Framing.{Token, whole, unitsOf}
 use Rattle.rule.specs.Rule.{Said, quiet, then, State, deal, wholeRun}
 use Rattle.rule.specs.Step.{step, steps}
 use Rattle.rule.specs.Calls.{Called, call}
 use Rattle.rule.specs.Facts as facts
 use Rattle.rule.specs.Facts.{spent, Stopped, Largest}
-use Rattle.rule.proofs.Steps.{steps-is-whole}
-use Rattle.rule.proofs.Calls.{call-steps, call-on, call-none, call-stamp}
+use Rattle.rule.proofs.Choice.{either}
+use Rattle.rule.proofs.Steps.{steps-append, steps-is-whole}
+use Rattle.rule.proofs.Calls.{call-steps, call-none, call-stamp}
 use Rattle.rule.proofs.Progress.{accept-stops}
 use Rattle.rule.proofs.Largest.{accept-largest, largest-one}
 use Rattle.rule.proofs.Bytes.{units-bytes}
 use Rattle.rule.proofs.Numbered.{Accepted, call-accepted, call-number, call-zero, call-fits}
 use Rattle.unit.specs.Names.{kindOf, nameOf}
-use Rattle.unit.specs.Unit.{Memory, Event, freshMemory, act, orderOf}
+use Rattle.unit.specs.Unit.{Memory, Event, clock, freshMemory, act, orderOf}
+use Rattle.unit.specs.Clock.{overdue, clocked}
 use Rattle.unit.specs.Protocol.{protocol, soundState, freshState}
 use Rattle.unit.proofs.Need.{need-law}
 use Rattle.unit.proofs.Replies.{given}
 use Rattle.unit.proofs.Kept.{Accepts, Without}
 use Rattle.unit.proofs.Runs.{getReply, run-get-after-set}
 use Rattle.unit.proofs.Sound as sound
+use Rattle.unit.proofs.Clock.{clock-step, clock-sound}
 use Rattle.unit.specs.declared.names.Order.{Order}
 use Rattle.unit.specs.declared.names.Order.the-variants.{Nothing}
 use Rattle.unit.specs.declared.names.Kind.the-variants.{Get}
 use Rattle.receiver.specs.State.{stateOf, boardOf}
 use Rattle.receiver.specs.Receive.{answer, Received}
+use Rattle.receiver.specs.Report.{clockedBoard, reported}
 use Rattle.receiver.specs.declared.Board.{Board}
 use Rattle.receiver.specs.declared.Call.{Call}
+use Rattle.receiver.specs.declared.Report.{Report}
 use Rattle.receiver.proofs.Calls.{state-board, call-order, call-board, call-state, accept-some}
+use Rattle.receiver.proofs.Reports.{told, report-unsound, report-sound, clocked-state, clocked-board}
 use Rattle.receiver.proofs.fresh.Reads as fresh
 use Rattle.receiver.proofs.receive.Reads as receive
+use Rattle.receiver.proofs.report_clock.Reads as report-clock
 
 -- ---- what the contracts allow
 
@@ -63,7 +70,17 @@ pub receive-one : {b : Board} {t : ℕ} {p before after after' : List ℕ} {r r'
     → (r ≡ r') × (after ≡ after')
 receive-one x y = (promise x .result ∙ sym (promise y .result), promise x .reply ∙ sym (promise y .reply))
 
--- the same of the other public function
+-- THE CONTRACT OF REPORT_CLOCK allows the answer r to the time `now`, reported to the board b
+pub data Reports (b : Board) (now : ℕ) (r : Report) : Type 0 where
+  allowed : (κs : _) (a : _) (s : _) → report-clock.Post κs a r s → a .0 ≡ b → a .1 .0 ≡ now → Reports b now r
+
+pub report-promise : {b : Board} {now : ℕ} {r : Report} → Reports b now r → r ≡ reported b now
+report-promise (allowed κs a s got e f) = rw (← e, ← f) got
+
+pub report-one : {b : Board} {now : ℕ} {r r' : Report} → Reports b now r → Reports b now r' → r ≡ r'
+report-one x y = report-promise x ∙ sym (report-promise y)
+
+-- and of the third public function
 pub fresh-one : Leaves fresh.Post (λ κs r s. r)
 fresh-one κs a r r' s s' p q = p ∙ sym q
 
@@ -79,6 +96,10 @@ receive-some b t p before =
     let after = c .said .reply ++ drop (length (c .said .reply)) before in
     allowed ([], ([], tt)) (b, (refTo p, (t, (refTo before, tt)))) (b, (refTo p, (t, (refTo after, tt)))) (record { result = refl; reply = refl })
     refl refl refl refl refl
+
+-- 02, P3: and every board state and time
+pub report-some : (b : Board) (now : ℕ) → Reports b now (reported b now)
+report-some b now = allowed tt (b, (now, tt)) (b, (now, tt)) refl refl refl
 
 -- ---- one call
 
@@ -198,6 +219,46 @@ module _ {b : Board} {t : ℕ} {p before after : List ℕ} {r : Call} (got : Ans
     pub only-count : (n : ℕ) → Largest protocol (stateOf b) t (length before) p n → r .taken ≡ n
     only-count n h = largest-one protocol largest h
 
+-- ---- one report (in quotation marks: sheet 02, P3)
+
+module _ {b : Board} {now : ℕ} {r : Report} (got : Reports b now r) where
+  -- the number 0, or 3 where the state is not sound: "Refusals: 3 as in 01."
+  pub report-numbered : r .number ≡ cond (soundState (stateOf b)) 0 3
+  report-numbered =
+      ap (λ (y : Report). y .number) (report-promise got) ∙ by (soundState (stateOf b)) (clockedBoard b now)
+    where
+      by : (y : Bool) (next : Board) → cond y (told 0 next) (told 3 b) .number ≡ cond y 0 3
+      by true next = refl
+      by false next = refl
+
+  -- "the state unchanged"
+  pub report-refused : (r .number ≡ 0 → ⊥) → r .board ≡ b
+  report-refused other = by (soundState (stateOf b)) refl
+    where
+      by : (y : Bool) → soundState (stateOf b) ≡ y → r .board ≡ b
+      by true h = absurd (other (report-numbered ∙ rw h))
+      by false h = ap (λ (y : Report). y .board) (report-promise got ∙ report-unsound b now h)
+
+  -- "If something is unfinished and the wait since the last byte exceeds 400, it is dropped", and else nothing changes
+  pub report-accepted : r .number ≡ 0 → r .board ≡ clockedBoard b now
+  report-accepted zero = by (soundState (stateOf b)) refl
+    where
+      by : (y : Bool) → soundState (stateOf b) ≡ y → r .board ≡ clockedBoard b now
+      by true h = ap (λ (y : Report). y .board) (report-promise got ∙ report-sound b now h)
+      by false h = let three : _≡_ {A = ℕ} 3 0 = sym (report-numbered ∙ rw h) ∙ zero in absurd (omega arith)
+
+  -- "the last stamp stays", dropped or not
+  pub report-stamp : r .board .stamp ≡ b .stamp
+  report-stamp =
+      ap (λ (y : Report). y .board .stamp) (report-promise got)
+      ∙ either (λ (y : Report). y .board .stamp ≡ b .stamp) (soundState (stateOf b)) _ _ (either (λ (y : Board). y .stamp ≡ b .stamp) (overdue (stateOf b) now) _ _ refl refl) refl
+
+  -- a report keeps a sound state sound
+  pub report-keeps-sound : soundState (stateOf b) ≡ true → soundState (stateOf (r .board)) ≡ true
+  report-keeps-sound h =
+      ap (λ (y : Report). soundState (stateOf (y .board))) (report-promise got ∙ report-sound b now h) ∙ ap soundState (clocked-state b now)
+      ∙ clock-sound (stateOf b) now h
+
 -- "A fresh board is sound"
 pub fresh-sound : (κs : _) (a : _) (b s : _) → fresh.Post κs a b s → soundState (stateOf b) ≡ true
 fresh-sound κs a b s is = ap (λ (y : Board). soundState (stateOf y)) is ∙ ap soundState (state-board freshState) ∙ sound.fresh-sound
@@ -212,17 +273,19 @@ saidBy r after = record { reply = take (r .written) after; orders = given (r .or
 abbrev pub leaves : Said Order (State Memory) → Said Order Board
 leaves w = record { reply = w .reply; orders = w .orders; next = boardOf (w .next) }
 
--- A RUN OFFERED in some cutting, from the board b until all of it is taken, and what was said; each answer is whatever the contract allows
+-- A RUN OFFERED in some cutting, from the board b to its end, and what was said; each answer is whatever its contract allows
 pub data Offered : Board → List (Item Event) → Said Order Board → Type 0 where
   done : (b : Board) → Offered b [] (quiet b)
-  -- bytes from the run's front that share a stamp, all of them or some; those not taken stay in front
-  offer : (b : Board) (run rest : List (Item Event)) (x : Said Order Board) (t : ℕ) (p before after : List ℕ) (r : Call) → run ≡ at t p ++ rest
-      → Answers b t p before r after → Offered (r .board) (at t (drop (r .taken) p) ++ rest) x
-      → Offered b run (then (saidBy r after) (λ _. x))
-  -- a call between that takes nothing, empty or refused, whatever its piece
-  aside : (b : Board) (run : List (Item Event)) (x : Said Order Board) (t : ℕ) (p before after : List ℕ) (r : Call) → r .taken ≡ 0
-      → Answers b t p before r after → Offered (r .board) run x
-      → Offered b run (then (saidBy r after) (λ _. x))
+  -- a call takes bytes that share a stamp from the run's front: all of its piece, some, or none where it is empty or refused. What it leaves comes
+  -- later in the run, at once or behind reports
+  offer : (b : Board) (run rest : List (Item Event)) (x : Said Order Board) (t : ℕ) (p before after : List ℕ) (r : Call) → Answers b t p before r after
+      → run ≡ at t (take (r .taken) p) ++ rest → Offered (r .board) rest x → Offered b run (then (saidBy r after) (λ _. x))
+  -- 02, P3: "The main loop may report the time at any moment, as an event of its own."
+  report : (b : Board) (run : List (Item Event)) (x : Said Order Board) (now : ℕ) (r : Report) → Reports b now r → r .number ≡ 0
+      → Offered (r .board) run x → Offered b (event (clock now) ∷ run) x
+  -- a refused one is no event of the run
+  unheard : (b : Board) (run : List (Item Event)) (x : Said Order Board) (now : ℕ) (r : Report) → Reports b now r → (r .number ≡ 0 → ⊥)
+      → Offered (r .board) run x → Offered b run x
 
 -- an answer at a board that stands for s, spare bytes too, says and leaves what the rule's call from s does
 module _ {b : Board} {t : ℕ} {p before after : List ℕ} {r : Call} (got : Answers b t p before r after) (s : State Memory) (is : b ≡ boardOf s) where
@@ -245,33 +308,32 @@ module _ {b : Board} {t : ℕ} {p before after : List ℕ} {r : Call} (got : Ans
       ap given (is-order got) ∙ ap (λ (y : Called Order Memory). given (orderOf (y .said .orders))) at-state ∙ call-order s t (length before) p in
       λ i. record { reply = w i; orders = o i; next = got-board i }
 
-  got-offer : (run rest : List (Item Event)) (x : Said Order Board) → run ≡ at t p ++ rest
-      → x ≡ leaves (steps protocol (c .said .next) (at t (drop (r .taken) p) ++ rest))
-      → then (saidBy r after) (λ _. x) ≡ leaves (steps protocol s run)
-  got-offer run rest x f e =
-      let ih = e ∙ ap (λ (k : ℕ). leaves (steps protocol (c .said .next) (at t (drop k p) ++ rest))) got-taken in
-      (λ i. then (got-said i) (λ _. ih i)) ∙ ap leaves (call-on protocol s t (length before) p rest)
-      ∙ ap (λ (l : List (Item Event)). leaves (steps protocol s l)) (sym f)
-
-  got-aside : (run : List (Item Event)) (x : Said Order Board) → r .taken ≡ 0 → x ≡ leaves (steps protocol (c .said .next) run)
-      → then (saidBy r after) (λ _. x) ≡ leaves (steps protocol s run)
-  got-aside run x f e =
-      let none : c .said ≡ quiet s = call-none protocol s t (length before) p (sym got-taken ∙ f) in
-      (λ i. then (got-said i) (λ _. e i)) ∙ (λ i. then (leaves (none i)) (λ _. leaves (steps protocol (none i .next) run)))
+  -- and so for the run behind it
+  got-offer : (run rest : List (Item Event)) (x : Said Order Board) → run ≡ at t (take (r .taken) p) ++ rest
+      → x ≡ leaves (steps protocol (c .said .next) rest) → then (saidBy r after) (λ _. x) ≡ leaves (steps protocol s run)
+  got-offer run rest x f ih =
+      let took : c .said ≡ steps protocol s (at t (take (r .taken) p)) =
+      call-steps protocol p s t (length before) .same ∙ ap (λ (k : ℕ). steps protocol s (at t (take k p))) (sym got-taken) in
+      (λ i. then (got-said i) (λ _. ih i)) ∙ ap (λ (a : Said Order (State Memory)). leaves (then a (λ n. steps protocol n rest))) took
+      ∙ ap leaves (sym (steps-append protocol (at t (take (r .taken) p)) rest s) ∙ ap (steps protocol s) (sym f))
 
 -- every offered run says and leaves what the byte steps over it do
 pub offered-steps : {b : Board} {run : List (Item Event)} {x : Said Order Board} → Offered b run x → (s : State Memory) → b ≡ boardOf s
     → x ≡ leaves (steps protocol s run)
 unfolding steps
 offered-steps (done b) s is = λ i. quiet (is i)
-offered-steps (offer b run rest x t p before after r f got h) s is =
+offered-steps (offer b run rest x t p before after r got f h) s is =
     got-offer got s is run rest x f (offered-steps h (call protocol s t (length before) p .said .next) (got-board got s is))
-offered-steps (aside b run x t p before after r f got h) s is =
-    got-aside got s is run x f (offered-steps h (call protocol s t (length before) p .said .next) (got-board got s is))
+offered-steps (report b run x now r got zero h) s is =
+    let next = report-accepted got zero ∙ ap (λ (y : Board). clockedBoard y now) is ∙ clocked-board s now in
+    offered-steps h (clocked s now) next
+    ∙ ap (λ (a : Said Order (State Memory)). leaves (then a (λ n. steps protocol n run))) (sym (clock-step s now))
+offered-steps (unheard b run x now r got other h) s is = offered-steps h s (report-refused got other ∙ is)
 
 module _ (κs : _) (a : _) (b : Board) (s : _) (is : fresh.Post κs a b s) (run : List (Item Event)) (x : Said Order Board) (h : Offered b run x) where
   -- Demand 3: "Any finite run of stamped bytes, offered to a fresh board in any cutting, with any rooms and empty or refused calls between, ends in
   -- what 01's rule gives for the whole run at once: replies joined, orders, settings, flags, last refused field, unfinished bytes, last stamp."
+  -- 02, P3: "Demand 3's run and the whole-run rule then hold bytes and clock reports in their order."
   pub any-cutting : x ≡ leaves (wholeRun protocol freshMemory 0 run)
   any-cutting = offered-steps h freshState is ∙ ap leaves (steps-is-whole protocol need-law freshMemory 0 run)
 
@@ -314,13 +376,24 @@ module _ (b : Board) (t x : ℕ) (sound : soundState (stateOf b) ≡ true) where
   one-more : (run : List (Item Event)) (y : Said Order Board) → Offered (answer b one .board) run y → (z : Said Order Board) × Offered b (byte t x ∷ run) z
   one-more run y h =
       let after = one .said .reply ++ drop (length (one .said .reply)) room in
-      let rest : Offered (answer b one .board) (at t (drop (one .taken) (x ∷ [])) ++ run) y =
-      subst (λ (l : List (Item Event)). Offered (answer b one .board) l y) (ap (λ (k : ℕ). at t (drop k (x ∷ [])) ++ run) (sym one-taken)) h in
-      (then (saidBy (answer b one) after) (λ _. y), offer b (byte t x ∷ run) run y t (x ∷ []) room after (answer b one) refl (receive-some b t (x ∷ []) room) rest)
+      let front : byte t x ∷ run ≡ at t (take (one .taken) (x ∷ [])) ++ run = ap (λ (k : ℕ). at t (take k (x ∷ [])) ++ run) (sym one-taken) in
+      (then (saidBy (answer b one) after) (λ _. y), offer b (byte t x ∷ run) run y t (x ∷ []) room after (answer b one) (receive-some b t (x ∷ []) room) front h)
 
--- Demand 3 speaks of every run: "With a piece that is not empty, an accepted call takes at least one byte", so each run can be offered to its end
+-- Demand 3 speaks of every run: "With a piece that is not empty, an accepted call takes at least one byte", and a sound board hears each report, so
+-- each run can be offered to its end
 pub offerable : (run : List (Item Event)) (b : Board) → soundState (stateOf b) ≡ true → (x : Said Order Board) × Offered b run x
 offerable [] b h = (quiet b, done b)
 offerable (byte t x ∷ run) b h =
     let rest = offerable run (answer b (one b t x h) .board) (keeps-sound (receive-some b t (x ∷ []) (room b t x h)) h) in
     one-more b t x h run (rest .0) (rest .1)
+offerable (event (clock now) ∷ run) b h =
+    let got = report-some b now in
+    let rest = offerable run (reported b now .board) (report-keeps-sound got h) in
+    (rest .0, report b run (rest .0) now (reported b now) got (report-numbered got ∙ rw h) (rest .1))
+
+-- a call that stops, then the time, then the untaken rest of its piece: offered as they came, one cutting of the run that has them in that order
+pub report-between : (b : Board) (t now : ℕ) (p before after : List ℕ) (r : Call) (q : Report) (run : List (Item Event)) (x : Said Order Board)
+    → Answers b t p before r after → Reports (r .board) now q → q .number ≡ 0 → Offered (q .board) (at t (drop (r .taken) p) ++ run) x
+    → Offered b (at t (take (r .taken) p) ++ (event (clock now) ∷ at t (drop (r .taken) p) ++ run)) (then (saidBy r after) (λ _. x))
+report-between b t now p before after r q run x got heard zero h =
+    offer b _ _ x t p before after r got refl (report (r .board) (at t (drop (r .taken) p) ++ run) x now q heard zero h)

@@ -1,4 +1,4 @@
-// The receiver of one board: a call takes bytes from a piece, answers what they complete, and hands the board on.
+// The receiver of one board: a call takes bytes from a piece, answers what they complete, and hands the board on. A report tells it the time.
 use settings::Settings;
 use unit::Judged;
 use unit::Notes;
@@ -14,9 +14,11 @@ ghost use Rattle.rule.specs.Calls.{none, accept, call};
 ghost use Rattle.rule.specs.Loop.{stateAt, ready};
 ghost use Rattle.unit.specs.Names.{need};
 ghost use Rattle.unit.specs.declared.names.Order.the-variants.{Nothing};
+ghost use Rattle.unit.specs.Unit.{memory};
 ghost use Rattle.unit.specs.Protocol.{protocol, begun, soundState, freshState};
 ghost use Rattle.receiver.specs.State.{stateOf, boardOf};
 ghost use Rattle.receiver.specs.Receive.{answer, Received, kept, holding, Ran};
+ghost use Rattle.receiver.specs.Report.{reported};
 
 // What the board keeps between calls. The bytes of the unfinished unit stand in front of held, and count tells how many.
 #[repr(C)]
@@ -33,6 +35,12 @@ pub struct Call {
     pub taken: usize,
     pub written: usize,
     pub order: Order,
+    pub board: Board,
+}
+
+#[repr(C)]
+pub struct Report {
+    pub number: u8,
     pub board: Board,
 }
 
@@ -191,6 +199,19 @@ fn refuse(number: u8, board: Board) -> Call
     }
 }
 
+// A board with nothing unfinished.
+fn idle(settings: Settings, notes: Notes, stamp: u32) -> Board
+    ensures { λ r. ⌜ r ≡ boardOf (stateAt (memory settings notes) [] stamp) ⌝ }
+{
+    Board {
+        settings,
+        notes,
+        held: [0u8; 48],
+        count: 0,
+        stamp,
+    }
+}
+
 // A board that has taken nothing yet.
 pub fn fresh() -> Board
     ensures { λ r. ⌜ r ≡ boardOf freshState ⌝ }
@@ -200,13 +221,7 @@ pub fn fresh() -> Board
         block: 0,
         field: 0,
     };
-    Board {
-        settings: Settings::fresh(),
-        notes,
-        held: [0u8; 48],
-        count: 0,
-        stamp: 0,
-    }
+    idle(Settings::fresh(), notes, 0)
 }
 
 // One call: a piece of bytes that share a stamp, and room for the replies.
@@ -226,4 +241,25 @@ pub fn receive(board: Board, piece: &[u8], stamp: u32, reply: &mut [u8]) -> Call
         return run(board, piece, stamp, reply);
     }
     refuse(3, board)
+}
+
+// One report of the time: what is unfinished is dropped where its last byte is too long ago.
+pub fn report_clock(board: Board, now: u32) -> Report
+    ensures { λ r. ⌜ r ≡ reported board now ⌝ }
+{
+    if is_sound(board) {
+        if 0 < board.count {
+            if is_late(now, board.stamp) {
+                let settings = board.settings;
+                let notes = board.notes;
+                let next = idle(settings, notes, board.stamp);
+                return Report {
+                    number: 0,
+                    board: next,
+                };
+            }
+        }
+        return Report { number: 0, board };
+    }
+    Report { number: 3, board }
 }

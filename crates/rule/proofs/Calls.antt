@@ -42,18 +42,6 @@ module _ {E O M : Type 0} (p : Protocol E O M) where
       (either (TakesSteps p s t piece) (ltb room (p .least)) _ _ (none-steps s t 2 piece)
       (either (TakesSteps p s t piece) (p .sound s) _ _ (accept-steps piece s t room) (none-steps s t 3 piece)))
 
-  -- a call, and then byte steps over what it left of its piece and the run behind: byte steps over all
-  pub call-on : (s : State M) (t room : ℕ) (piece : List ℕ) (q : List (Item E))
-      → let c = call p s t room piece in then (c .said) (λ n. steps p n (at t (drop (c .taken) piece) ++ q)) ≡ steps p s (at t piece ++ q)
-  call-on s t room piece q =
-      let k = call p s t room piece .taken in
-      let front = at t (take k piece) in
-      let rest = at t (drop k piece) in
-      let split : front ++ rest ≡ at t piece = sym (at-append t (take k piece) (drop k piece)) ∙ ap (at t) (take-append-drop k piece) in
-      let same : front ++ (rest ++ q) ≡ at t piece ++ q = sym (append-assoc front rest q) ∙ ap (λ (r : List (Item E)). r ++ q) split in
-      ap (λ (a : Said O (State M)). then a (λ n. steps p n (rest ++ q))) (call-steps piece s t room .same) ∙ sym (steps-append p front (rest ++ q) s)
-      ∙ ap (steps p s) same
-
   -- a call that took nothing did nothing
   pub call-none : (s : State M) (t room : ℕ) (piece : List ℕ) → call p s t room piece .taken ≡ 0 → call p s t room piece .said ≡ quiet s
   unfolding steps

@@ -15,3 +15,4 @@ pub mod Whole
 pub mod Largest
 pub mod Numbered
 pub mod Spread
+pub mod TrueTime

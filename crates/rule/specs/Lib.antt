@@ -5,3 +5,4 @@ pub mod Step
 pub mod Calls
 pub mod Loop
 pub mod Facts
+pub mod TrueTime

@@ -1,5 +1,5 @@
 -- THE RULE, 1 of 3: a run, which is stamped bytes and events of other kinds between them.
--- In quotation marks: sheet 01, "How a run of bytes is read". Knows no call, piece or room and no byte step.
+-- In quotation marks: sheet 01, "How a run of bytes is read", or 02 where it is named. Knows no call, piece or room and no byte step.
 use Prim.Native.Nat.{ℕ, zero, suc, _+_, _-_, _%_}
 use mathlib.Core.Bool.{Bool, cond}
 use mathlib.Core.List.{List, [], _∷_, map}
@@ -15,7 +15,7 @@ unfoldable pub late : ℕ → ℕ → Bool
 unfolding wait
 late later earlier = ltb 400 (wait later earlier)
 
--- a byte behind its stamp, or an event: sheet 01 has bytes only, later requests put reports and pulses between them
+-- a byte behind its stamp, or an event. 02, P3: "Demand 3's run and the whole-run rule then hold bytes and clock reports in their order."
 pub data Item (E : Type 0) : Type 0 where
   byte : ℕ → ℕ → Item E
   event : E → Item E
@@ -46,7 +46,7 @@ module _ {E : Type 0} where
   past (suc k) (byte t b ∷ r) = past k r
   past (suc k) (event e ∷ r) = past (suc k) r
 
-  -- the stamp of a run's last byte, or t where there is none ("One call": "Each byte taken sets the last stamp.")
+  -- the stamp of a run's last byte, or t where there is none ("One call": "Each byte taken sets the last stamp."; 02, P3: "the last stamp stays")
   unfoldable pub lastStamp : ℕ → List (Item E) → ℕ
   lastStamp t [] = t
   lastStamp t (byte s b ∷ r) = lastStamp s r
@@ -56,7 +56,8 @@ module _ {E : Type 0} where
   abbrev pub at : ℕ → List ℕ → List (Item E)
   at t u = map (λ b. byte t b) u
 
-  -- `cuts t e`: an event e drops what is unfinished, its last byte at t
+  -- `cuts t e`: an event e drops what is unfinished, its last byte at t (02, P3: "the wait since the last byte exceeds 400"). Other events are
+  -- passed over: the wait goes on from the last byte
   module _ (cuts : ℕ → E → Bool) where
     -- the front of a run that comes in time after a byte at t: each item no "more than 400 ms" after the byte before it
     unfoldable pub onward : ℕ → List (Item E) → List (Item E)

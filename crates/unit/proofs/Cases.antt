@@ -1,5 +1,5 @@
 -- The starred cases of sheet 01, "Frames on the bench": all thirteen in one table, under one statement about the definitions. In quotation marks: 01.
--- Assumes nothing.
+-- Behind them 02's P3, seven weeks of standstill, in a table of its own. Assumes nothing.
 use mathlib.Core.Path.{_≡_, refl}
 use mathlib.Core.List.{List, [], _∷_, _++_, map}
 use Prim.Native.Nat.{ℕ}
@@ -13,11 +13,11 @@ use Rattle.wire.specs.Tests.{within, onlyBits, firstFalse}
 use Rattle.frame.specs.Frame.{intact}
 use Rattle.sheet.specs.Rows.{least}
 use Rattle.settings.specs.Settings.{numbersAt}
-use Rattle.rule.specs.Run.{Item, at, wait, late, onward, lastStamp}
+use Rattle.rule.specs.Run.{Item, event, at, wait, late, onward, lastStamp}
 use Rattle.rule.specs.Framing.{front, units}
 use Rattle.rule.specs.Rule.{deal, wholeRun}
 use Rattle.unit.specs.Names.{orderNumber, setBlock, getBlock, orderKind, kindOf, need}
-use Rattle.unit.specs.Unit.{Event, freshMemory, gets, checked, puts, does, act}
+use Rattle.unit.specs.Unit.{Event, clock, freshMemory, gets, checked, puts, does, act}
 use Rattle.unit.specs.Protocol.{protocol}
 
 -- ---- what a case says
@@ -127,3 +127,36 @@ unfolding crcBit crcBits crcByte crcFrom leAt leBytes laid within onlyBits first
 starred =
     row refl (row refl (row refl (row refl (row refl
     (row refl (row refl (row refl (row refl (row refl (row refl (row refl (row refl none))))))))))))
+
+-- ---- reports of the time (02, P3)
+
+-- st, what comes then, and op at the stamp t: the order stop is given, or only op is there, unfinished
+abbrev pub standstill : ℕ → List (Item Event) → ℕ → List (Item Event)
+standstill s between t = at s (sent "st") ++ (between ++ at t (sent "op"))
+
+abbrev pub stops : Outcome
+stops = record { reply = sent "stop"; orders = 1 ∷ []; unfinished = []; flags = 0; block = 0; field = 0; holds = 0 ∷ 0 ∷ 1 ∷ 1 ∷ 0 ∷ 0 ∷ [] }
+
+abbrev pub halved : Outcome
+halved = record { reply = []; orders = []; unfinished = sent "op"; flags = 0; block = 0; field = 0; holds = 0 ∷ 0 ∷ 1 ∷ 1 ∷ 0 ∷ 0 ∷ [] }
+
+abbrev pub reports : List Case
+reports =
+    -- op comes 2^32 + 100 ms behind st, and the counter has come round: no report; a report a day after st
+    frame (standstill 0 [] 100) 1 stops
+    ∷ frame (standstill 0 (event (clock 86400000) ∷ []) 100) 1 halved
+    -- a report 400 ms after st drops nothing, at 401 it does; and so do reports at 300 and 500: a report does not restart the wait
+    ∷ frame (standstill 0 (event (clock 400) ∷ []) 100) 1 stops
+    ∷ frame (standstill 0 (event (clock 401) ∷ []) 100) 1 halved
+    ∷ frame (standstill 0 (event (clock 300) ∷ event (clock 500) ∷ []) 100) 1 halved
+    -- the same across the wrap: st at 4294967200, op 2^32 + 100 ms later
+    ∷ frame (standstill 4294967200 (event (clock 304) ∷ []) 4) 1 stops
+    ∷ frame (standstill 4294967200 (event (clock 305) ∷ []) 4) 1 halved
+    -- `Watched` bounds the time between reports sharply: 400 ms, and then 2^32 - 400 ms with no report, are a turn of the counter
+    ∷ frame (standstill 0 (event (clock 400) ∷ []) 0) 1 stops
+    ∷ []
+
+pub reported : Each reports
+unfolding crcBit crcBits crcByte crcFrom leAt leBytes laid within onlyBits firstFalse least setBlock getBlock orderKind kindOf need intact gets checked puts does act
+    wait late onward lastStamp front units deal wholeRun
+reported = row refl (row refl (row refl (row refl (row refl (row refl (row refl (row refl none)))))))

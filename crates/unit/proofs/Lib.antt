@@ -3,6 +3,7 @@ pub mod Gets
 pub mod Need
 pub mod Replies
 pub mod Sound
+pub mod Clock
 pub mod Named
 pub mod Kept
 pub mod Runs

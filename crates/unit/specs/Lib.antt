@@ -1,3 +1,4 @@
 pub mod Names
 pub mod Unit
 pub mod Protocol
+pub mod Clock

@@ -1,18 +1,19 @@
--- This protocol, as the rule and a call take it. In quotation marks: sheet 01, "One call".
+-- This protocol, as the rule and a call take it. In quotation marks, where nothing else is said: sheet 01, "One call".
 use mathlib.Core.Bool.{Bool, false, cond}
 use mathlib.Core.List.{List, []}
 use Prim.Native.Nat.{ℕ}
 use lib.Dec.{leb, ltb}
 use lib.ListN.{length}
 use Rattle.settings.specs.Settings.{allGood}
+use Rattle.rule.specs.Run.{late}
 use Rattle.rule.specs.Rule.{State, Protocol}
 use Rattle.unit.specs.Names.{need}
-use Rattle.unit.specs.Unit.{Memory, Event, act, freshMemory}
+use Rattle.unit.specs.Unit.{Memory, Event, clock, act, freshMemory}
 use Rattle.unit.specs.declared.names.Order.{Order}
 
--- no event drops a unit
-abbrev never : ℕ → Event → Bool
-never t e = false
+-- 02, P3: "If something is unfinished and the wait since the last byte exceeds 400, it is dropped": the last byte at that stamp
+abbrev pub cutBy : ℕ → Event → Bool
+cutBy last (clock now) = late now last
 
 -- "every field lies in its range, the floats are finite, and the flags are at most 7"
 unfoldable pub soundMemory : Memory → Bool
@@ -28,7 +29,7 @@ unfoldable pub soundState : State Memory → Bool
 soundState s = cond (begun (s .line .unfinished)) (soundMemory (s .memory)) false
 
 abbrev pub protocol : Protocol Event Order Memory
-protocol = record { cuts = never; need = need; act = act; longest = 250; least = 48; sound = soundState }
+protocol = record { cuts = cutBy; need = need; act = act; longest = 250; least = 48; sound = soundState }
 
 -- "nothing is unfinished, the last stamp is 0"
 abbrev pub freshState : State Memory

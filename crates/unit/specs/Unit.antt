@@ -31,8 +31,9 @@ pub record Memory : Type 0 where
 abbrev pub freshMemory : Memory
 freshMemory = record { settings = freshSettings; notes = record { flags = 0; block = 0; field = 0 } }
 
--- nothing but bytes comes in, yet
+-- what comes in besides bytes: "The main loop may report the time at any moment, as an event of its own." (02, P3)
 pub data Event : Type 0 where
+  clock : ℕ → Event
 
 -- ---- the answers
 
@@ -93,7 +94,7 @@ answered m u = does m u (kindOf (nameOf u))
 abbrev pub zeroed : Memory → Said Order Memory
 zeroed m = record { reply = 0 ∷ []; orders = []; next = m }
 
--- WHAT BECOMES OF A TOKEN: a unit is answered; "A wait .. drops the unit's bytes so far, without reply or flag"
+-- WHAT BECOMES OF A TOKEN: a unit is answered; "A wait .. drops the unit's bytes so far, without reply or flag", and a report says nothing
 unfoldable pub act : Memory → Token Event → Said Order Memory
 act m (whole u) = cond (eqb (getD u 0 0) 0) (zeroed m) (answered m u)
 act m (lost u) = quiet m

@@ -1,0 +1,150 @@
+-- Why the time is reported (02, P3): with a report often enough, the counter coming round completes no unit. Assumes nothing.
+use Prim.Native.Nat.{ℕ, suc, _+_, _-_, _<_, _≤_}
+use mathlib.Core.Path.{_≡_, refl, ap, sym, subst, _∙_}
+use mathlib.Core.Bool.{Bool, true, false}
+use mathlib.Core.List.{List, [], _∷_, _++_, append-assoc}
+use native.Mathlib.Omega.{arith}
+use lib.ListN.{length, take, drop, length-append}
+use lib.Seq.{take-append-seam, drop-append-seam}
+use borrow.Author.Tests.{ltb-false}
+use Rattle.rule.specs.Run.{byte, wait, late}
+use Rattle.rule.specs.Framing.{Needs, Token, whole, Cut, unitsOf}
+use Rattle.rule.specs.Rule.{Line}
+use Rattle.rule.specs.Step.{Fed, join, settle, feedOn, feed, feeds}
+use Rattle.rule.specs.TrueTime.{Timed, byteAt, reportAt, timeOf, times, byteTime, lastByte, lastTime, CloseTo, Close, longest, shown, WholeClose, stamp, stamped, Watched}
+use Rattle.rule.proofs.Choice.{eitherBy}
+use Rattle.rule.proofs.Framing.{settle-either, feeds-is-units}
+
+-- ---- times
+
+-- less than a turn of the counter apart, the wait is the true one
+wait-true : (later earlier : ℕ) → earlier ≤ later → later < earlier + 4294967296 → wait (shown later) (shown earlier) ≡ later - earlier
+unfolding wait
+wait-true later earlier h k = omega arith
+
+-- what is not late is close
+not-late : (later earlier : ℕ) → earlier ≤ later → later < earlier + 4294967296 → late (shown later) (shown earlier) ≡ false → later ≤ earlier + 400
+unfolding late
+not-late later earlier h k e = omega (arith, ltb-false 400 (wait (shown later) (shown earlier)) e, wait-true later earlier h k)
+
+-- the last of the times t ∷ ts
+abbrev lastOf : ℕ → List ℕ → ℕ
+lastOf t [] = t
+lastOf t (s ∷ ts) = lastOf s ts
+
+close-on : (t : ℕ) (ts : List ℕ) (s : ℕ) → CloseTo t ts → s ≤ lastOf t ts + 400 → CloseTo t (ts ++ s ∷ [])
+close-on t [] s h k = (k, tt)
+close-on t (x ∷ ts) s h k = (h .0, close-on x ts s (h .1) k)
+
+last-on : (t : ℕ) (ts : List ℕ) (s : ℕ) → lastOf t (ts ++ s ∷ []) ≡ s
+last-on t [] s = refl
+last-on t (x ∷ ts) s = last-on x ts s
+
+-- a unit u whose bytes came at us, before ts
+module _ {E : Type 0} (u us ts : List ℕ) (same : length u ≡ length us) (ks : List (Token E)) where
+  unit-close : Close us → WholeClose ks ts → WholeClose (whole u ∷ ks) (us ++ ts)
+  unit-close h k = rw (same, take-append-seam us ts, drop-append-seam us ts) (h, k)
+
+  behind : WholeClose ks ts → WholeClose ks (drop (length u) (us ++ ts))
+  behind k = rw (same, drop-append-seam us ts) k
+
+module _ {E : Type 0} (clock : ℕ → E) (cuts : ℕ → E → Bool) (need : List ℕ → ℕ) where
+  -- nothing is unfinished, the last stamp is t
+  abbrev idle : ℕ → Line
+  idle t = record { unfinished = []; last = t }
+
+  -- ---- the main loop's part, item by item: from the line l, the last byte came at b and the last item at p
+  abbrev WatchedFrom : Line → ℕ → ℕ → List Timed → Type 0
+  WatchedFrom l b p [] = Unit {0}
+  WatchedFrom l b p (x ∷ r) =
+      (0 < length (l .unfinished) → (b ≤ timeOf x) × (timeOf x ≤ p + longest))
+      × WatchedFrom (feed cuts need l (stamp clock x) .line) (byteTime b x) (timeOf x) r
+
+  -- the line after one item more
+  feeds-on : (l : Line) (q : List Timed) (x : Timed)
+      → feeds cuts need l (stamped clock (q ++ x ∷ [])) .line ≡ feed cuts need (feeds cuts need l (stamped clock q) .line) (stamp clock x) .line
+  unfolding feeds
+  feeds-on l [] x = refl
+  feeds-on l (y ∷ q) x = feeds-on (feed cuts need l (stamp clock y) .line) q x
+
+  byte-on : (t : ℕ) (q : List Timed) (x : Timed) → lastByte t (q ++ x ∷ []) ≡ byteTime (lastByte t q) x
+  byte-on t [] x = refl
+  byte-on t (y ∷ q) x = byte-on (byteTime t y) q x
+
+  time-on : (t : ℕ) (q : List Timed) (x : Timed) → lastTime t (q ++ x ∷ []) ≡ timeOf x
+  time-on t [] x = refl
+  time-on t (y ∷ q) x = time-on (timeOf y) q x
+
+  module _ (law : Needs need) where
+    watched-from : (r q : List Timed) → Watched clock cuts need (q ++ r)
+        → WatchedFrom (feeds cuts need (idle 0) (stamped clock q) .line) (lastByte 0 q) (lastTime 0 q) r
+    watched-from [] q w = tt
+    watched-from (x ∷ r) q w =
+        let unfinished = ap (λ (c : Cut E). length (c .unfinished)) (feeds-is-units cuts need law (stamped clock q) 0) in
+        let next = watched-from r (q ++ x ∷ []) (rw append-assoc w) in
+        ((λ some. w q r x refl (rw (← unfinished) some)), rw (← feeds-on (idle 0) q x, ← byte-on 0 q x, ← time-on 0 q x) next)
+
+    module _ (clocks : (last now : ℕ) → cuts last (clock now) ≡ late now last) where
+      -- ---- what the proof goes by, for a run r: with nothing unfinished, and within a unit whose bytes a ∷ u came at t ∷ ts, the last at b
+      Idle : List Timed → Type 0
+      Idle r = (s b p : ℕ) → WatchedFrom (idle s) b p r → WholeClose (feeds cuts need (idle s) (stamped clock r) .tokens) (times r)
+
+      Within : List Timed → Type 0
+      Within r =
+          (a t b p : ℕ) (u ts : List ℕ) → length u ≡ length ts → CloseTo t ts → lastOf t ts ≡ b → p ≤ b + 400
+          → let l : Line = record { unfinished = a ∷ u; last = shown b } in
+          WatchedFrom l b p r → WholeClose (feeds cuts need l (stamped clock r) .tokens) (t ∷ ts ++ times r)
+
+      -- the step has come to f, the last byte at b and the last item at p, and the run goes on with r
+      abbrev onTo : List Timed → Fed E → List (Token E)
+      onTo r f = join (f .tokens) (feeds cuts need (f .line) (stamped clock r)) .tokens
+
+      abbrev Meets : ℕ → ℕ → List ℕ → List Timed → Fed E → Type 0
+      Meets b p ts r f = WatchedFrom (f .line) b p r → WholeClose (onTo r f) ts
+
+      abbrev nothing : ℕ → Fed E
+      nothing t = record { tokens = []; line = idle t }
+
+      settled : (r : List Timed) → Idle r → Within r → (a t b : ℕ) (u ts : List ℕ) → length u ≡ length ts → CloseTo t ts → lastOf t ts ≡ b
+          → Meets b b (t ∷ ts ++ times r) r (settle cuts need (a ∷ u) (shown b))
+      unfolding Idle Within
+      settled r out inside a t b u ts long close last =
+          settle-either cuts need (Meets b b (t ∷ ts ++ times r) r) (a ∷ u) (shown b)
+          (λ _ w. unit-close (a ∷ u) (t ∷ ts) (times r) (ap suc long) (onTo r (nothing (shown b))) close (out (shown b) b b w))
+          (λ _ w. inside a t b b u ts long close last (omega arith) w)
+
+      idle-step : (x : Timed) (r : List Timed) → Idle r → Within r → Idle (x ∷ r)
+      unfolding Idle feeds feed feedOn
+      idle-step (byteAt s x) r out inside t b p w = settled r out inside x s s [] [] refl tt refl (w .1)
+      idle-step (reportAt s) r out inside t b p w = out t b s (w .1)
+
+      within-step : (x : Timed) (r : List Timed) → Idle r → Within r → Within (x ∷ r)
+      unfolding Idle Within feeds feed feedOn
+      within-step (byteAt s x) r out inside a t b p u ts long close last near w =
+          let due = w .0 (omega arith) in
+          eitherBy (Meets s s (t ∷ ts ++ s ∷ times r) r) (late (shown s) (shown b)) _ _
+          (λ _ v. behind (a ∷ u) (t ∷ ts) (s ∷ times r) (ap suc long) (onTo r (settle cuts need (x ∷ []) (shown s))) (settled r out inside x s s [] [] refl tt refl v))
+          (λ e v.
+          let k = not-late s b (due .0) (omega (arith, due .1)) e in
+          rw (← append-assoc ts (s ∷ []) (times r))
+          (settled r out inside a t s (u ++ x ∷ []) (ts ++ s ∷ []) (omega (arith, length-append u (x ∷ []), length-append ts (s ∷ []))) (close-on t ts s close (omega arith)) (last-on t ts s) v))
+          (w .1)
+      within-step (reportAt s) r out inside a t b p u ts long close last near w =
+          let due = w .0 (omega arith) in
+          eitherBy (Meets b s (t ∷ ts ++ times r) r) (cuts (shown b) (clock (shown s))) _ _
+          (λ _ v. behind (a ∷ u) (t ∷ ts) (times r) (ap suc long) (onTo r (nothing (shown b))) (out (shown b) b s v))
+          (λ e v. inside a t b s u ts long close last (not-late s b (due .0) (omega (arith, due .1)) (sym (clocks (shown b) (shown s)) ∙ e)) v)
+          (w .1)
+
+      both : (r : List Timed) → Idle r × Within r
+      unfolding Idle Within feeds
+      both [] = ((λ s b p w. tt), (λ a t b p u ts long close last near w. tt))
+      both (x ∷ r) =
+          let ih = both r in
+          (idle-step x r (ih .0) (ih .1), within-step x r (ih .0) (ih .1))
+
+      -- NO UNIT IS COMPLETED BY A BYTE THAT CAME MORE THAN 400 MS OF TRUE TIME AFTER THE ONE BEFORE IT, and none holds such a byte
+      pub true-time : (run : List Timed) → Watched clock cuts need run → WholeClose (unitsOf cuts need (stamped clock run) .tokens) (times run)
+      unfolding Idle feeds
+      true-time run w =
+          subst (λ (c : Cut E). WholeClose (c .tokens) (times run)) (feeds-is-units cuts need law (stamped clock run) 0) (both run .0 0 0 0 (watched-from run [] w))

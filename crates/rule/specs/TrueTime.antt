@@ -1,0 +1,78 @@
+-- A run in true time, which never comes round, and as the board is shown it. No part of the rule: the words of the law that says why the time is
+-- reported (`true-time` of proofs/TrueTime). In quotation marks: sheet 02, P3.
+use Prim.Native.Nat.{ℕ, _+_, _%_, _<_, _≤_}
+use mathlib.Core.Path.{_≡_}
+use mathlib.Core.Bool.{Bool}
+use mathlib.Core.List.{List, [], _∷_, _++_, map}
+use lib.ListN.{length, take, drop}
+use Rattle.rule.specs.Run.{Item, byte, event}
+use Rattle.rule.specs.Framing.{Token, whole, lost, seen, unitsOf}
+
+-- a byte, or a report of the time, and the millisecond it came at
+pub data Timed : Type 0 where
+  byteAt : ℕ → ℕ → Timed
+  reportAt : ℕ → Timed
+
+abbrev pub timeOf : Timed → ℕ
+timeOf (byteAt t b) = t
+timeOf (reportAt t) = t
+
+-- the times of a run's bytes
+abbrev pub times : List Timed → List ℕ
+times [] = []
+times (byteAt t b ∷ r) = t ∷ times r
+times (reportAt t ∷ r) = times r
+
+-- when the last byte of a run came, and its last byte or report; t where there is none
+abbrev pub byteTime : ℕ → Timed → ℕ
+byteTime t (byteAt s b) = s
+byteTime t (reportAt s) = t
+
+abbrev pub lastByte : ℕ → List Timed → ℕ
+lastByte t [] = t
+lastByte t (x ∷ r) = lastByte (byteTime t x) r
+
+abbrev pub lastTime : ℕ → List Timed → ℕ
+lastTime t [] = t
+lastTime t (x ∷ r) = lastTime (timeOf x) r
+
+-- times behind t, and times: none more than 400 ms after the one before it
+abbrev pub CloseTo : ℕ → List ℕ → Type 0
+CloseTo t [] = Unit {0}
+CloseTo t (s ∷ ts) = (s ≤ t + 400) × CloseTo s ts
+
+abbrev pub Close : List ℕ → Type 0
+Close [] = Unit {0}
+Close (t ∷ ts) = CloseTo t ts
+
+-- 2^32 - 401 ms, the longest that the main loop may be silent while something is unfinished
+abbrev pub longest : ℕ
+longest = 4294966895
+
+-- the board's counter shows a time modulo 4,294,967,296
+abbrev pub shown : ℕ → ℕ
+shown t = t % 4294967296
+
+module _ {E : Type 0} where
+  -- a run's tokens, and the times of its bytes: those of each whole unit are close
+  abbrev pub WholeClose : List (Token E) → List ℕ → Type 0
+  WholeClose [] ts = Unit {0}
+  WholeClose (whole u ∷ ks) ts = Close (take (length u) ts) × WholeClose ks (drop (length u) ts)
+  WholeClose (lost u ∷ ks) ts = WholeClose ks (drop (length u) ts)
+  WholeClose (seen e ∷ ks) ts = WholeClose ks ts
+
+  module _ (clock : ℕ → E) where
+    -- a run as the board is shown it; `clock s` is the report of the stamp s
+    abbrev pub stamp : Timed → Item E
+    stamp (byteAt t b) = byte (shown t) b
+    stamp (reportAt t) = event (clock (shown t))
+
+    abbrev pub stamped : List Timed → List (Item E)
+    stamped r = map stamp r
+
+    -- WHAT THE MAIN LOOP HAS TO DO: while something is unfinished, it hands the board nothing from before the last byte, and the next byte or report
+    -- within `longest` of the last one
+    abbrev pub Watched : (ℕ → E → Bool) → (List ℕ → ℕ) → List Timed → Type 0
+    Watched cuts need run =
+        (q r : List Timed) (x : Timed) → run ≡ q ++ x ∷ r → 0 < length (unitsOf cuts need (stamped q) .unfinished)
+        → (lastByte 0 q ≤ timeOf x) × (timeOf x ≤ lastTime 0 q + longest)
