@@ -1,4 +1,4 @@
-/* A board's main loop: stamped pieces in, replies out, orders to the drive. */
+/* A board's main loop: stamped pieces in, replies out, orders to the drive, and the time reported when nothing comes. */
 #include "rivertosku.h"
 
 #include <stdio.h>
@@ -9,7 +9,7 @@ struct arrival {
     uint8_t bytes[32];
 };
 
-/* What the serial port would bring. */
+/* What the serial port would bring. A length of 0: a turn of the loop at which nothing came. */
 static const struct arrival line[] = {
     /* A good set of brk: t1 is 65535. */
     {1000, 25, {'s', 'b', 'r', 'k', 0xFF, 0xFF}},
@@ -21,6 +21,13 @@ static const struct arrival line[] = {
     /* Half a command; the rest comes 401 ms later and is read as a new unit. */
     {2000, 2, {'l', 'e'}},
     {2401, 2, {'f', 't'}},
+    /* Half a command; the rest comes 2^32 + 100 ms later, which looks like 100. Four of the turns between; the second drops the half. */
+    {3000, 2, {'l', 'e'}},
+    {3400, 0, {0}},
+    {3401, 0, {0}},
+    {4294967295, 0, {0}},
+    {0, 0, {0}},
+    {3100, 2, {'f', 't'}},
 };
 
 static void drive(uint8_t order)
@@ -44,6 +51,17 @@ int main(void)
 {
     struct rivertosku_board board = rivertosku_fresh();
     for (size_t i = 0; i < sizeof line / sizeof line[0]; i++) {
+        if (line[i].length == 0) {
+            struct rivertosku_report report = rivertosku_report_clock(board, line[i].stamp);
+            if (report.number != RIVERTOSKU_ACCEPTED) {
+                printf("refused %u\n", (unsigned)report.number);
+                return 1;
+            }
+            if (report.board.count < board.count) {
+                printf("dropped %zu\n", board.count);
+            }
+            board = report.board;
+        }
         const uint8_t *piece = line[i].bytes;
         size_t left = line[i].length;
         while (left > 0) {

@@ -11,7 +11,7 @@
 #define RIVERTOSKU_PIECE 250
 #define RIVERTOSKU_ROOM 48
 
-/* The number of a call's answer. A refused call takes and writes nothing and leaves the board as it is. */
+/* The number of a call's answer, and of a report's, which is 0 or 3. A refused call takes and writes nothing; the board stays as it is. */
 enum {
     RIVERTOSKU_ACCEPTED = 0,
     RIVERTOSKU_PIECE_TOO_LONG = 1, /* piece over 250 bytes */
@@ -139,7 +139,7 @@ struct rivertosku_notes {
     size_t field;
 };
 
-/* What a board keeps between calls. Read it as you like; change it by rivertosku_receive only. */
+/* What a board keeps between calls. Read it as you like; change it by rivertosku_receive and rivertosku_report_clock only. */
 struct rivertosku_board {
     struct rivertosku_settings settings;
     struct rivertosku_notes notes;
@@ -156,6 +156,11 @@ struct rivertosku_answer {
     struct rivertosku_board board;
 };
 
+struct rivertosku_report {
+    uint8_t number; /* 0 accepted, else the refusal */
+    struct rivertosku_board board;
+};
+
 /* A board that has taken nothing yet. */
 struct rivertosku_board rivertosku_fresh(void);
 
@@ -164,6 +169,13 @@ struct rivertosku_board rivertosku_fresh(void);
    must not overlap. */
 struct rivertosku_answer rivertosku_receive(struct rivertosku_board board, const uint8_t *piece, size_t piece_len, uint32_t stamp,
                                             uint8_t *reply, size_t reply_len);
+
+/* A report of the time, by the counter that stamps the bytes. Unfinished bytes are dropped, without reply or flag, if the last byte came
+   over 400 ms ago; nothing else changes, the last stamp neither, so a report does not restart the wait.
+   A call looks at the clock only when a byte comes. While something is unfinished, the main loop has to report at least every 2^32 - 401 ms
+   (some 49.7 days), counted from the last byte or report, or half a command may be resumed when the counter has come round; once a second
+   or once a minute is plenty. Bytes that came earlier and are not yet taken may be offered behind a report, with their own stamp. */
+struct rivertosku_report rivertosku_report_clock(struct rivertosku_board board, uint32_t now);
 
 /* The optimiser's end, in liboptimiser.a. */
 
@@ -235,6 +247,7 @@ static_assert(sizeof(struct rivertosku_settings) == 128, "settings");
 static_assert(sizeof(struct rivertosku_notes) == 24, "notes");
 static_assert(sizeof(struct rivertosku_board) == 216, "board");
 static_assert(sizeof(struct rivertosku_answer) == 240, "answer");
+static_assert(sizeof(struct rivertosku_report) == 224, "report");
 static_assert(sizeof(struct rivertosku_written) == 16, "written");
 static_assert(sizeof(struct rivertosku_reading) == 144, "reading");
 #endif

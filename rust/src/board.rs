@@ -1,7 +1,7 @@
 //! The proved receiver, libboard.a, behind safe types.
 //!
-//! A `Board` comes from `fresh` and changes by `receive` only, so it is always sound. What a call took and wrote comes as slices: the rest
-//! that is to be offered again, and the reply.
+//! A `Board` comes from `fresh` and changes by `receive` and `report_clock` only, so it is always sound. What a call took and wrote comes
+//! as slices: the rest that is to be offered again, and the reply.
 
 /// Block 1.
 #[repr(C)]
@@ -136,18 +136,38 @@ struct Answer {
     board: Parts,
 }
 
+#[repr(C)]
+struct Report {
+    number: u8,
+    board: Parts,
+}
+
 extern "C" {
     fn rivertosku_fresh() -> Parts;
     fn rivertosku_receive(board: Parts, piece: *const u8, piece_len: usize, stamp: u32, reply: *mut u8, reply_len: usize) -> Answer;
+    fn rivertosku_report_clock(board: Parts, now: u32) -> Report;
 }
 
-/// 01's number of a call's answer.
+/// 01's number of a call's answer. A report of the time answers `Accepted` or `Unsound`.
 #[derive(Clone, Copy, PartialEq, Eq, Debug)]
 pub enum Number {
     Accepted = 0,
     PieceTooLong = 1,
     RoomTooSmall = 2,
     Unsound = 3,
+}
+
+impl Number {
+    /// The number that the library answered.
+    fn answered(number: u8) -> Number {
+        match number {
+            0 => Number::Accepted,
+            1 => Number::PieceTooLong,
+            2 => Number::RoomTooSmall,
+            3 => Number::Unsound,
+            n => panic!("the library answered number {n}"),
+        }
+    }
 }
 
 #[derive(Clone, Copy, PartialEq, Eq, Debug)]
@@ -212,13 +232,7 @@ impl Board {
         let answer = unsafe { rivertosku_receive(self.0, piece.as_ptr(), piece.len(), stamp, reply.as_mut_ptr(), reply.len()) };
         self.0 = answer.board;
         Call {
-            number: match answer.number {
-                0 => Number::Accepted,
-                1 => Number::PieceTooLong,
-                2 => Number::RoomTooSmall,
-                3 => Number::Unsound,
-                n => panic!("the library answered number {n}"),
-            },
+            number: Number::answered(answer.number),
             taken: answer.taken,
             order: match answer.order {
                 0 => None,
@@ -227,6 +241,20 @@ impl Board {
             rest: &piece[answer.taken..],
             reply: &reply[..answer.written],
         }
+    }
+
+    /// The time, by the counter that stamps the bytes. Unfinished bytes are dropped, without reply or flag, if the last byte came over
+    /// 400 ms ago; nothing else changes, the last stamp neither, so a report does not restart the wait.
+    ///
+    /// A call looks at the clock only when a byte comes. While something is unfinished, the main loop has to report at least every
+    /// 2^32 - 401 ms (some 49.7 days), counted from the last byte or report, or half a command may be resumed when the counter has come
+    /// round; once a second or once a minute is plenty. Bytes that came earlier and are not yet taken may be offered behind a report, with
+    /// their own stamp.
+    pub fn report_clock(&mut self, now: u32) -> Number {
+        // SAFETY: no memory is handed over; any board value is allowed.
+        let report = unsafe { rivertosku_report_clock(self.0, now) };
+        self.0 = report.board;
+        Number::answered(report.number)
     }
 
     pub fn settings(&self) -> &Settings {
@@ -287,9 +315,10 @@ mod tests {
             size_of::<Notes>(),
             size_of::<Parts>(),
             size_of::<Answer>(),
+            size_of::<Report>(),
         ];
-        println!("mov eng pwr eds hom brk pid settings notes board answer: {sizes:?}");
-        assert_eq!(sizes, [20, 20, 10, 20, 24, 10, 20, 128, 24, 216, 240]);
+        println!("mov eng pwr eds hom brk pid settings notes board answer report: {sizes:?}");
+        assert_eq!(sizes, [20, 20, 10, 20, 24, 10, 20, 128, 24, 216, 240, 224]);
     }
 
     #[test]
@@ -302,5 +331,37 @@ mod tests {
         assert_eq!((call.order, call.reply, call.rest), (None, &b"errc\0"[..], &b""[..]));
         assert_eq!((board.flags(), board.unfinished(), board.stamp()), (1, &b"le"[..], 1000));
         assert_eq!(board.last_refused(), None);
+    }
+
+    /// Half a command, reports of the time, and the rest after 2^32 + 100 ms, which its stamp shows as 100.
+    #[test]
+    fn standstill() {
+        let cases: [(u32, &[u32], bool); 8] = [
+            (1000, &[], true),
+            (1000, &[1400], true),
+            (1000, &[1401], false),
+            // A report does not restart the wait.
+            (1000, &[1300, 1401], false),
+            // The last moment, and one too late.
+            (1000, &[999], false),
+            (1000, &[1000], true),
+            // The counter passes its end between byte and report.
+            (4294967200, &[304], true),
+            (4294967200, &[305], false),
+        ];
+        for (stamp, reports, completed) in cases {
+            let mut board = Board::fresh();
+            let mut room = [0; Board::ROOM];
+            assert_eq!(board.receive(b"le", stamp, &mut room).taken, 2);
+            for &now in reports {
+                assert_eq!(board.report_clock(now), Number::Accepted);
+            }
+            let half = if completed { &b"le"[..] } else { b"" };
+            assert_eq!((board.unfinished(), board.stamp(), board.flags()), (half, stamp, 0));
+            assert_eq!(board.receive(b"ft", stamp.wrapping_add(100), &mut room).order, completed.then_some(Order::Left));
+        }
+        let unsound = Board::from_parts(Parts { count: 49, ..*Board::fresh().parts() });
+        let mut board = unsound.clone();
+        assert_eq!((board.report_clock(401), board), (Number::Unsound, unsound));
     }
 }

@@ -61,6 +61,15 @@ faults! {
     FlagsOver7 = "unsound-flags",
     FieldOutOfRange = "unsound-field",
     UnknownBit = "unsound-unknown-bit",
+    // A report of the time
+    ReportSetsStamp = "report-sets-stamp",
+    Report400TooLong = "report-400-too-long",
+    ReportDropsAlways = "report-drops-always",
+    ReportDropsNever = "report-drops-never",
+    ReportPlainSubtraction = "report-plain-subtraction",
+    ReportFlags = "report-flags",
+    ReportRefusesSound = "report-refuses-sound",
+    ReportAcceptsUnsound = "report-accepts-unsound",
     // A host's writer
     HostRangeSkipped = "host-range-skipped",
     HostRangeOneOff = "host-range-one-off",
@@ -250,6 +259,16 @@ impl Second {
         self.run(fault, piece, stamp, reply)
     }
 
+    /// A report of the time; the answer's number.
+    pub fn report_clock(&mut self, now: u32) -> u8 {
+        self.look(Fault::None, now)
+    }
+
+    /// A report to a receiver that is wrong in one place.
+    pub fn broken_report_clock(&mut self, fault: Fault, now: u32) -> u8 {
+        self.look(fault, now)
+    }
+
     /// The rule of soundness that the state breaks, if one.
     #[inline(always)]
     fn unsound(&self, fault: Fault) -> Option<Fault> {
@@ -285,6 +304,38 @@ impl Second {
     #[inline(always)]
     fn raise(&mut self, fault: Fault, bit: usize) {
         self.flags = if fault == Fault::FlagsOverwritten { bit } else { self.flags | bit };
+    }
+
+    // Inlined, so that `report_clock` holds no test of a fault. The soundness is a right call's, so that a wrong one has to show in calls.
+    #[inline(always)]
+    fn look(&mut self, fault: Fault, now: u32) -> u8 {
+        let refused = match self.unsound(Fault::None) {
+            Some(_) => fault != Fault::ReportAcceptsUnsound,
+            None => fault == Fault::ReportRefusesSound,
+        };
+        if refused {
+            return 3;
+        }
+        let wait = match fault {
+            Fault::ReportPlainSubtraction => now.saturating_sub(self.stamp),
+            _ => now.wrapping_sub(self.stamp),
+        };
+        let over = match fault {
+            Fault::ReportDropsAlways => true,
+            Fault::ReportDropsNever => false,
+            Fault::Report400TooLong => wait > 399,
+            _ => wait > 400,
+        };
+        if self.len > 0 && over {
+            self.len = 0;
+            if fault == Fault::ReportFlags {
+                self.raise(fault, 1);
+            }
+        }
+        if fault == Fault::ReportSetsStamp {
+            self.stamp = now;
+        }
+        0
     }
 
     // Inlined, so that `call` holds no test of a fault.
@@ -547,6 +598,21 @@ mod tests {
             assert_eq!(offer(&mut second, b"op", stamp).1, orders);
             assert_eq!(second.len, len);
         }
+    }
+
+    #[test]
+    fn reports() {
+        // 400 ms after the last byte, 401, and the last moment before the counter has come round.
+        for (now, orders, len) in [(304, vec![1], 0), (305, vec![], 2), (4294967199, vec![], 2)] {
+            let mut second = Second::fresh();
+            offer(&mut second, b"st", 4294967200);
+            assert_eq!((second.report_clock(now), second.stamp, second.flags), (0, 4294967200, 0));
+            assert_eq!(offer(&mut second, b"op", 4).1, orders);
+            assert_eq!(second.len, len);
+        }
+        let unsound = Second { len: 49, ..Second::fresh() };
+        let mut second = unsound.clone();
+        assert_eq!((second.report_clock(401), second), (3, unsound));
     }
 
     #[test]

@@ -8,7 +8,7 @@ use lib.ListN.{length, take, length-take}
 use borrow.Author.Tests.{lt-ltb, le-ltb}
 use Rattle.rule.specs.Run.{late}
 use Rattle.rule.specs.Rule.{State}
-use Rattle.rule.proofs.Choice.{either, eitherBy}
+use Rattle.rule.proofs.Choice.{either}
 use Rattle.unit.specs.Unit.{Memory}
 use Rattle.unit.specs.Clock.{overdue, dropped, clocked}
 use Rattle.unit.specs.Protocol.{soundState}

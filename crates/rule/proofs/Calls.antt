@@ -1,10 +1,10 @@
 -- A call is the byte step over the bytes it took.
 use Prim.Native.Nat.{ℕ, _<_}
 use mathlib.Core.Path.{_≡_, refl, ap, sym, _∙_}
-use mathlib.Core.List.{List, [], _∷_, _++_, append-assoc}
+use mathlib.Core.List.{List, [], _∷_, _++_}
 use native.Mathlib.Omega.{arith}
 use lib.Dec.{ltb}
-use lib.ListN.{length, take, drop, take-append-drop}
+use lib.ListN.{length, take}
 use lib.Seq.{length-take-le}
 use Rattle.rule.specs.Run.{Item, byte, lastStamp, at}
 use Rattle.rule.specs.Rule.{Said, quiet, then, State, Protocol}
@@ -14,7 +14,7 @@ use Rattle.rule.specs.Facts.{says, TakesSteps}
 use Rattle.rule.proofs.Choice.{either}
 use Rattle.rule.proofs.Accept.{accept-by}
 use Rattle.rule.proofs.Said.{then-quiet}
-use Rattle.rule.proofs.Steps.{steps-append, steps-last}
+use Rattle.rule.proofs.Steps.{steps-last}
 
 pub at-append : {E : Type 0} (t : ℕ) (u w : List ℕ) → at {E = E} t (u ++ w) ≡ at t u ++ at t w
 at-append {E} t [] w = refl

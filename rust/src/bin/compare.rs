@@ -1,6 +1,7 @@
 //! The library and the second receiver on the same random runs, compared after each call: number, taken, written, order, every byte of
-//! the buffer, the state. The library's host and the second one write the runs' requests and read every reply, and are compared too: length
-//! or refusal, every byte of the buffer, the answer. The readers also get bytes that no board sends.
+//! the buffer, the state. Before some calls the time is reported: number and state are compared. The library's host and the second one
+//! write the runs' requests and read every reply, and are compared too: length or refusal, every byte of the buffer, the answer. The
+//! readers also get bytes that no board sends.
 //!
 //!     compare [--seed N] [--units N] [--break NAME|all] [--show]
 
@@ -26,6 +27,8 @@ enum Change {
 #[derive(Clone)]
 struct Step {
     change: Option<Change>,
+    /// Reports of the time before each of its calls, as waits since the last byte, whichever that is.
+    reports: Vec<u32>,
     piece: Vec<u8>,
     stamp: u32,
     room: usize,
@@ -47,6 +50,10 @@ struct Counts {
     calls: usize,
     numbers: [usize; 4],
     bytes: usize,
+    /// Reports of the time, those that dropped something, and those refused.
+    reports: usize,
+    dropped: usize,
+    unreported: usize,
     /// Requests written, and those refused by 3 and 4.
     written: usize,
     unwritten: [usize; 2],
@@ -61,6 +68,12 @@ impl Counts {
         self.units += units;
         self.numbers[number as usize] += 1;
         self.bytes += taken;
+    }
+
+    fn report(&mut self, number: Number, dropped: bool) {
+        self.reports += 1;
+        self.dropped += dropped as usize;
+        self.unreported += (number != Number::Accepted) as usize;
     }
 }
 
@@ -205,6 +218,52 @@ fn kept(before: &Parts, parts: &Parts, taken: usize) -> Result<(), String> {
     Ok(())
 }
 
+/// The time reported to both, so long after the last byte; what differs.
+fn report_clock(board: &mut Board, second: &mut Second, fault: Fault, wait: u32, counts: &mut Counts) -> Result<(), String> {
+    let mut expected = *board.parts();
+    let now = expected.stamp.wrapping_add(wait);
+
+    let number = board.report_clock(now);
+    let a = number as u8;
+    let b = match fault {
+        Fault::None => second.report_clock(now),
+        _ => second.broken_report_clock(fault, now),
+    };
+
+    let parts = board.parts();
+    let dropped = parts.count != expected.count;
+    counts.report(number, dropped);
+    if a != b {
+        return Err(format!("report at {now}, number: library {a}, second {b}"));
+    }
+    if let Some(text) = same::difference(board, second) {
+        return Err(format!("report at {now}, {text}"));
+    }
+    // The library's record besides: the very same, but for the unfinished bytes if they are dropped.
+    if dropped {
+        (expected.held, expected.count) = ([0; 48], 0);
+    }
+    if *parts != expected {
+        return Err(format!("report at {now}, the record: {parts:?}, not {expected:?}"));
+    }
+    Ok(())
+}
+
+/// A step's reports and calls, by turns; what differs.
+fn offer(board: &mut Board, second: &mut Second, fault: Fault, step: &Step, counts: &mut Counts) -> Result<(), String> {
+    let mut rest = &step.piece[..];
+    loop {
+        for &wait in &step.reports {
+            report_clock(board, second, fault, wait, counts)?;
+        }
+        let (taken, accepted) = call(board, second, fault, rest, step.stamp, step.room, counts)?;
+        rest = &rest[taken..];
+        if rest.is_empty() || taken == 0 || !accepted {
+            return Ok(());
+        }
+    }
+}
+
 fn play(run: &Run, fault: Fault, counts: &mut Counts) -> Result<(), Miss> {
     counts.runs += 1;
     let mut board = Board::fresh();
@@ -228,18 +287,7 @@ fn play(run: &Run, fault: Fault, counts: &mut Counts) -> Result<(), Miss> {
             }
             None => None,
         };
-        let mut rest = &s.piece[..];
-        loop {
-            match call(&mut board, &mut second, fault, rest, s.stamp, s.room, counts) {
-                Err(text) => return Err(Miss { step, text }),
-                Ok((taken, accepted)) => {
-                    rest = &rest[taken..];
-                    if rest.is_empty() || taken == 0 || !accepted {
-                        break;
-                    }
-                }
-            }
-        }
+        offer(&mut board, &mut second, fault, s, counts).map_err(|text| Miss { step, text })?;
         if let Some((b, s)) = kept {
             (board, second) = (b, s);
         }
@@ -350,6 +398,12 @@ fn later(random: &mut Random, stamp: u32, calm: bool) -> u32 {
     })
 }
 
+/// The waits of a few reports in a row, if any.
+fn reports(random: &mut Random, chance: usize) -> Vec<u32> {
+    let some = if random.percent(chance) { 1 + random.below(3) } else { 0 };
+    (0..some).map(|_| later(random, 0, false)).collect()
+}
+
 fn room(random: &mut Random) -> usize {
     match random.below(10) {
         0..=2 => 48,
@@ -418,7 +472,8 @@ fn sound(random: &mut Random) -> (Parts, Vec<u8>) {
 
 /// Calls aside, which take nothing.
 fn aside(random: &mut Random, piece: &[u8], stamp: u32) -> Step {
-    let mut aside = Step { change: None, piece: piece.to_vec(), stamp: later(random, stamp, false), room: room(random) };
+    let mut aside =
+        Step { change: None, reports: reports(random, 20), piece: piece.to_vec(), stamp: later(random, stamp, false), room: room(random) };
     match random.below(6) {
         0 => aside.piece.clear(),
         1 => aside.room = if random.percent(50) { 47 } else { random.below(48) },
@@ -463,7 +518,9 @@ fn random_run(random: &mut Random, fault: Fault, counts: &mut Counts) -> Result<
         if random.percent(12) {
             steps.push(aside(random, &piece, stamp));
         }
-        steps.push(Step { change: None, piece, stamp, room: room(random) });
+        // Long pieces take several calls: reports are to come between these too.
+        let chance = 1 + piece.len() / 8;
+        steps.push(Step { change: None, reports: reports(random, chance), piece, stamp, room: room(random) });
         stamp = later(random, stamp, calm);
     }
     Ok(Run { start, steps })
@@ -486,41 +543,59 @@ fn read_alone(random: &mut Random, fault: Fault, counts: &mut Counts) -> Result<
     Ok(())
 }
 
-/// The shortest failing run that dropping calls and bytes leads to.
+/// The run with some steps dropped, or its start.
+fn fewer_steps(run: &Run) -> Vec<Run> {
+    let mut tries = vec![Run { start: None, ..run.clone() }];
+    tries.retain(|_| run.start.is_some());
+    let steps = run.steps.len();
+    for size in [steps / 2, steps / 4, 2, 1] {
+        for from in (0..steps).step_by(size.max(1)) {
+            if size > 0 && size < steps && from + size <= steps {
+                let mut less = run.clone();
+                less.steps.drain(from..from + size);
+                tries.push(less);
+            }
+        }
+    }
+    tries
+}
+
+/// The run with a report or bytes of a step dropped, or the next step joined to it, less its reports.
+fn shorter_step(run: &Run, i: usize) -> Vec<Run> {
+    let mut tries = vec![];
+    for report in 0..run.steps[i].reports.len() {
+        let mut less = run.clone();
+        less.steps[i].reports.remove(report);
+        tries.push(less);
+    }
+    let n = run.steps[i].piece.len();
+    for size in [n / 2, n / 4, n / 8, 2, 1] {
+        for from in (0..n).step_by(size.max(1)) {
+            if size > 0 && from + size <= n {
+                let mut less = run.clone();
+                less.steps[i].piece.drain(from..from + size);
+                tries.push(less);
+            }
+        }
+    }
+    if i + 1 < run.steps.len() && run.steps[i].change.is_none() && run.steps[i + 1].change.is_none() {
+        let mut less = run.clone();
+        let next = less.steps.remove(i + 1);
+        less.steps[i].piece.extend(next.piece);
+        tries.push(less);
+    }
+    tries
+}
+
+/// The shortest failing run that dropping calls, reports and bytes leads to.
 fn shortest(mut run: Run, fault: Fault) -> (Run, Miss) {
     let fails = |run: &Run| play(run, fault, &mut Counts::default()).err();
     let mut miss = fails(&run).expect("it failed before");
     loop {
         run.steps.truncate(miss.step + 1);
-        let mut tries = vec![Run { start: None, ..run.clone() }];
-        tries.retain(|_| run.start.is_some());
-        let steps = run.steps.len();
-        for size in [steps / 2, steps / 4, 2, 1] {
-            for from in (0..steps).step_by(size.max(1)) {
-                if size > 0 && size < steps && from + size <= steps {
-                    let mut less = run.clone();
-                    less.steps.drain(from..from + size);
-                    tries.push(less);
-                }
-            }
-        }
-        for i in 0..steps {
-            let n = run.steps[i].piece.len();
-            for size in [n / 2, n / 4, n / 8, 2, 1] {
-                for from in (0..n).step_by(size.max(1)) {
-                    if size > 0 && from + size <= n {
-                        let mut less = run.clone();
-                        less.steps[i].piece.drain(from..from + size);
-                        tries.push(less);
-                    }
-                }
-            }
-            if i + 1 < steps && run.steps[i].change.is_none() && run.steps[i + 1].change.is_none() {
-                let mut less = run.clone();
-                let next = less.steps.remove(i + 1);
-                less.steps[i].piece.extend(next.piece);
-                tries.push(less);
-            }
+        let mut tries = fewer_steps(&run);
+        for i in 0..run.steps.len() {
+            tries.extend(shorter_step(&run, i));
         }
         match tries.into_iter().find_map(|less| fails(&less).map(|miss| (less, miss))) {
             Some((less, next)) => (run, miss) = (less, next),
@@ -537,6 +612,9 @@ fn show(run: &Run, miss: &Miss) {
     for step in &run.steps {
         if let Some(change) = &step.change {
             println!("  state by hand: {change:?}");
+        }
+        if !step.reports.is_empty() {
+            println!("  reports before each call, so many ms after the last byte: {:?}", step.reports);
         }
         println!("  stamp {} room {} piece of {} {}", step.stamp, step.room, step.piece.len(), hex(&step.piece));
     }
@@ -610,14 +688,17 @@ fn summary(counts: &Counts, seed: u64) {
     let [no_name, no_answer, cut, damaged] = counts.unread;
     println!(
         "compared {} units ({set} sets, {get} gets, {order} orders, {errv} errv, {errd} errd, {errc} errc, {zero} zeros) in {} runs, \
-         {} calls of which {} refused ({one} by 1, {two} by 2, {three} by 3), {} bytes, {} requests written and {} refused \
-         ({out_of_range} by 3, {too_short} by 4), {} answers read and {} refused ({no_name} by 5, {no_answer} by 6, {cut} by 7, \
-         {damaged} by 8), seed {seed}",
+         {} calls of which {} refused ({one} by 1, {two} by 2, {three} by 3), {} bytes, {} reports of the time of which {} dropped \
+         something and {} were refused, {} requests written and {} refused ({out_of_range} by 3, {too_short} by 4), {} answers read \
+         and {} refused ({no_name} by 5, {no_answer} by 6, {cut} by 7, {damaged} by 8), seed {seed}",
         counts.units,
         counts.runs,
         counts.calls,
         one + two + three,
         counts.bytes,
+        counts.reports,
+        counts.dropped,
+        counts.unreported,
         counts.written,
         out_of_range + too_short,
         counts.read,
