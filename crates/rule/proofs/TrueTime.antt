@@ -11,7 +11,7 @@ use Rattle.rule.specs.Run.{byte, wait, late}
 use Rattle.rule.specs.Framing.{Needs, Token, whole, Cut, unitsOf}
 use Rattle.rule.specs.Rule.{Line}
 use Rattle.rule.specs.Step.{Fed, join, settle, feedOn, feed, feeds}
-use Rattle.rule.specs.TrueTime.{Timed, byteAt, reportAt, timeOf, times, byteTime, lastByte, lastTime, CloseTo, Close, longest, shown, WholeClose, stamp, stamped, Watched}
+use Rattle.rule.specs.TrueTime.{Timed, byteAt, reportAt, timeOf, times, byteTime, lastByte, lastTime, CloseTo, Close, longestSilence, shown, WholeClose, stamp, stamped, Watched}
 use Rattle.rule.proofs.Choice.{eitherBy}
 use Rattle.rule.proofs.Framing.{settle-either, feeds-is-units}
 
@@ -57,7 +57,7 @@ module _ {E : Type 0} (clock : ℕ → E) (cuts : ℕ → E → Bool) (need : Li
   abbrev WatchedFrom : Line → ℕ → ℕ → List Timed → Type 0
   WatchedFrom l b p [] = Unit {0}
   WatchedFrom l b p (x ∷ r) =
-      (0 < length (l .unfinished) → (b ≤ timeOf x) × (timeOf x ≤ p + longest))
+      (0 < length (l .unfinished) → (b ≤ timeOf x) × (timeOf x ≤ p + longestSilence))
       × WatchedFrom (feed cuts need l (stamp clock x) .line) (byteTime b x) (timeOf x) r
 
   -- the line after one item more

@@ -46,15 +46,15 @@ Close [] = Unit {0}
 Close (t ∷ ts) = CloseTo t ts
 
 -- 2^32 - 401 ms, the longest that the main loop may be silent while something is unfinished
-abbrev pub longest : ℕ
-longest = 4294966895
+abbrev pub longestSilence : ℕ
+longestSilence = 4294966895
 
 -- the board's counter shows a time modulo 4,294,967,296
 abbrev pub shown : ℕ → ℕ
 shown t = t % 4294967296
 
 module _ {E : Type 0} where
-  -- a run's tokens, and the times of its bytes: those of each whole unit are close
+  -- a run's tokens, and the times of its bytes, which they spend in sequence (`units-bytes`): those of each whole unit are close
   abbrev pub WholeClose : List (Token E) → List ℕ → Type 0
   WholeClose [] ts = Unit {0}
   WholeClose (whole u ∷ ks) ts = Close (take (length u) ts) × WholeClose ks (drop (length u) ts)
@@ -71,8 +71,8 @@ module _ {E : Type 0} where
     stamped r = map stamp r
 
     -- WHAT THE MAIN LOOP HAS TO DO: while something is unfinished, it hands the board nothing from before the last byte, and the next byte or report
-    -- within `longest` of the last one
+    -- within `longestSilence` of the last one
     abbrev pub Watched : (ℕ → E → Bool) → (List ℕ → ℕ) → List Timed → Type 0
     Watched cuts need run =
         (q r : List Timed) (x : Timed) → run ≡ q ++ x ∷ r → 0 < length (unitsOf cuts need (stamped q) .unfinished)
-        → (lastByte 0 q ≤ timeOf x) × (timeOf x ≤ lastTime 0 q + longest)
+        → (lastByte 0 q ≤ timeOf x) × (timeOf x ≤ lastTime 0 q + longestSilence)
