@@ -7,7 +7,6 @@ use host::names;
 use host::names::Block;
 use host::request;
 use host::request::Request;
-use settings::Settings;
 
 fn show_writer(block: Block, section: &[u8]) {
     let mut out = [0u8; 48];
@@ -16,11 +15,7 @@ fn show_writer(block: Block, section: &[u8]) {
 }
 
 fn show_held(number: usize, section: &[u8]) {
-    let mut board = receiver::fresh();
-    let fresh = Settings::fresh();
-    let settings = fresh.put(number, section);
-    board.settings = settings;
-    crate::show(b"  held", board, b"stop");
+    crate::show_holding(b"  held", number, section);
 }
 
 fn show_bit(about: &[u8], block: Block, number: usize, place: usize, width: usize, bit: u64) {

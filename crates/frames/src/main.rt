@@ -119,40 +119,46 @@ fn show_sheet() {
     show_in(b"gpidgpid", receiver::fresh(), b"gpidgpid", &mut least_room);
 }
 
-// A board that breaks one rule of soundness.
-fn show_unsound() {
-    let mut unknown = receiver::fresh();
-    unknown.held[0] = 120;
-    unknown.count = 4;
-    show(b"unknown name", unknown, b"stop");
-    let mut past = receiver::fresh();
-    let frame = framed(Brk::SET, 6, 0, 0, 0, 0);
-    past.held = frame;
-    past.count = 25;
-    show(b"whole set", past, b"stop");
-    let mut beyond = receiver::fresh();
-    beyond.held[0] = 120;
-    beyond.count = 49;
-    show(b"49 bytes", beyond, b"stop");
-    let mut range = receiver::fresh();
+// A call on a board that has these bytes unfinished.
+fn show_unfinished(about: &[u8], held: [u8; 48], count: usize) {
+    let mut board = receiver::fresh();
+    board.held = held;
+    board.count = count;
+    show(about, board, b"stop");
+}
+
+// A call on a board whose settings hold a data section.
+fn show_holding(about: &[u8], block: usize, section: &[u8]) {
+    let mut board = receiver::fresh();
     let fresh = Settings::fresh();
-    let slow = fresh.put(1, &[0u8; 24]);
-    range.settings = slow;
-    show(b"Accel 0", range, b"stop");
-    let mut section = [0u8; 42];
-    wire::put(&mut section, 6, 4, 0x7f800000);
-    let mut float = receiver::fresh();
-    let endless = fresh.put(7, &section);
-    float.settings = endless;
-    show(b"Kpf infinite", float, b"stop");
-    let mut flags = receiver::fresh();
+    let settings = fresh.put(block, section);
+    board.settings = settings;
+    show(about, board, b"stop");
+}
+
+fn show_flags() {
+    let mut board = receiver::fresh();
     let notes = Notes {
         flags: 8,
         block: 0,
         field: 0,
     };
-    flags.notes = notes;
-    show(b"flags 8", flags, b"stop");
+    board.notes = notes;
+    show(b"flags 8", board, b"stop");
+}
+
+// Boards that break one rule of soundness each.
+fn show_unsound() {
+    let mut unknown = [0u8; 48];
+    unknown[0] = 120;
+    show_unfinished(b"unknown name", unknown, 4);
+    show_unfinished(b"whole set", framed(Brk::SET, 6, 0, 0, 0, 0), 25);
+    show_unfinished(b"49 bytes", unknown, 49);
+    show_holding(b"Accel 0", 1, &[0u8; 24]);
+    let mut section = [0u8; 42];
+    wire::put(&mut section, 6, 4, 0x7f800000);
+    show_holding(b"Kpf infinite", 7, &section);
+    show_flags();
 }
 
 fn show_blocks() {

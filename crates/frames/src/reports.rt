@@ -61,16 +61,25 @@ fn show_between(about: &[u8], now: u32) {
     show_bytes(told, 1000, b"d", &mut reply);
 }
 
-// A report restarts no wait. With nothing unfinished, and on a board that is not sound, it changes nothing.
-fn show_others() {
+// A report restarts no wait.
+fn show_again() {
     let mut reply = [0u8; 48];
     print::say(b"two reports\n");
     let half = show_bytes(receiver::fresh(), 0, b"st", &mut reply);
     let once = show_clock(half, 300);
-    let twice = show_clock(once, 500);
+    show_clock(once, 500);
+}
+
+// With nothing unfinished a report changes nothing.
+fn show_idle() {
+    let mut reply = [0u8; 48];
     print::say(b"nothing unfinished\n");
-    let stopped = show_bytes(twice, 600, b"stop", &mut reply);
+    let stopped = show_bytes(receiver::fresh(), 600, b"stop", &mut reply);
     show_clock(stopped, 4000000000);
+}
+
+// Nor on a board that is not sound.
+fn show_unsound() {
     print::say(b"unfinished 00\n");
     let mut zero = receiver::fresh();
     zero.count = 1;
@@ -87,5 +96,7 @@ pub fn show_all() {
     show_halves(b"401 ms across the wrap", 4294967200, 305, 4);
     show_between(b"400 ms, then the rest", 1400);
     show_between(b"401 ms, then the rest", 1401);
-    show_others();
+    show_again();
+    show_idle();
+    show_unsound();
 }

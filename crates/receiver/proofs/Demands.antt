@@ -276,8 +276,8 @@ leaves w = record { reply = w .reply; orders = w .orders; next = boardOf (w .nex
 -- A RUN OFFERED in some cutting, from the board b to its end, and what was said; each answer is whatever its contract allows
 pub data Offered : Board → List (Item Event) → Said Order Board → Type 0 where
   done : (b : Board) → Offered b [] (quiet b)
-  -- a call takes bytes that share a stamp from the run's front: all of its piece, some, or none where it is empty or refused. What it leaves comes
-  -- later in the run, at once or behind reports
+  -- a call takes bytes that share a stamp from the run's front: all of its piece, some, or none where it is empty or refused. What it leaves is
+  -- offered later, as the run has it: at once, or behind reports
   offer : (b : Board) (run rest : List (Item Event)) (x : Said Order Board) (t : ℕ) (p before after : List ℕ) (r : Call) → Answers b t p before r after
       → run ≡ at t (take (r .taken) p) ++ rest → Offered (r .board) rest x → Offered b run (then (saidBy r after) (λ _. x))
   -- 02, P3: "The main loop may report the time at any moment, as an event of its own."
