@@ -1,26 +1,18 @@
 // The checksum of a data section (01, "The board and its wire").
 ghost use mathlib.Core.Path.{_≡_};
-ghost use Rattle.crc.specs.Crc.{crcBit, crcByte, crcFrom, crcOf};
+ghost use Rattle.crc.specs.Crc.{crcByte, crcFrom, crcOf};
 
-fn crc_bit(register: u16) -> u16
-    ensures { λ r. ⌜ r ≡ crcBit register ⌝ }
-{
-    if register % 2 == 1 {
-        register >> 1 ^ 0xA001
-    } else {
-        register >> 1
-    }
-}
-
-// The step of one byte. Its callers know its promise only, so that its body can change under them.
+// The step of one byte: its eight shifts at once. Its callers know its promise only, so that its body can change under them.
 fn crc_byte(register: u16, byte: u8) -> u16
     ensures { λ r. ⌜ r ≡ crcByte register byte ⌝ }
 {
-    let mut c = register ^ byte as u16;
-    for k in 0..8usize {
-        c = crc_bit(c);
+    let x = (register ^ byte as u16) % 256;
+    let mut high = register >> 8;
+    // Put on the high byte and not on the whole: what follows of a byte is a shorter chain, and the next byte waits for it.
+    if u16::count_ones(x) % 2 == 1 {
+        high = high ^ 0xC001;
     }
-    c
+    high ^ x << 6 ^ x << 7
 }
 
 // The register after a part's bytes, from the register that an earlier part left.

@@ -1,32 +1,24 @@
--- `crc::crc_byte` meets its contract. After k turns the register is the one after k steps. Assumes nothing.
-use mathlib.Core.Path.{_≡_, refl}
-use Prim.Native.Nat.{_≤_, _-_}
-use native.Mathlib.Numerals.{add-one}
-use native.Mathlib.Omega.{arith}
+-- `crc::crc_byte` meets its contract: it does the eight steps at once. Assumes nothing.
+use mathlib.Core.Path.{_≡_}
+use mathlib.Core.Logic.{⊎-elim}
+use Prim.Native.Nat.{_/_, _%_}
 use borrow.Author.Needs.{needs}
+use borrow.Author.Tests.{eq-eqb, ne-eqb}
 use lib.Bits.{bitXor}
-use Rattle.crc.specs.Crc.{crcBits, crcByte}
+use lib.Count.{ones}
+use Rattle.crc.proofs.Parity.{marked, atOnce, byte-at-once}
 use Rattle.crc.proofs.crc_byte.Statement.{statement}
 use Rattle.crc.proofs.crc_byte.Tie as tie
 
-abbrev Inv-loop : tie.InvT-loop
-Inv-loop register byte c₀ k₀ c k = (k ≤ 8) × (c ≡ crcBits k (bitXor register byte))
-
-abbrev μ-loop : tie.MeasureT-loop
-μ-loop register byte c₀ k₀ c k = 8 - k
-
-loop-holds : tie.Need-loop-holds Inv-loop μ-loop
-unfolding crcBits
-loop-holds c = (search needs, refl)
-
-loop-again : tie.Need-loop-again Inv-loop μ-loop
-unfolding crcBits
-loop-again c = (omega arith, rw add-one (cc))
-
-returns : tie.Need-returns Inv-loop μ-loop
-unfolding crcByte
-returns c = let e : c .before .loop .k ≡ 8 = omega arith in cc
+returns : tie.Need-returns
+unfolding marked atOnce
+returns c =
+    let r = c .before .before .args .register in
+    let b = c .before .before .args .byte in
+    let x = bitXor r b % 256 in
+    let high : c .before .if1 .high ≡ marked x (r / 256) =
+    ⊎-elim (λ w. rw (eq-eqb (ones x % 2) 1 (w .0 .taken)) (w .1)) (λ w. rw (ne-eqb (ones x % 2) 1 (w .0 .left)) (w .1)) (c .before .if1 .came) in
+    rw high (byte-at-once r b (search needs))
 
 pub crc-byte-spec : {M : Type 1} → statement M
-crc-byte-spec =
-    tie.close (tie.spec Inv-loop μ-loop loop-holds (λ c κs. search needs) (λ c. search needs) (λ c. search needs) loop-again returns)
+crc-byte-spec = tie.close (tie.spec returns)
