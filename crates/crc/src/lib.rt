@@ -2,13 +2,13 @@
 ghost use mathlib.Core.Path.{_≡_};
 ghost use Rattle.crc.specs.Crc.{crcByte, crcFrom, crcOf};
 
-// The step of one byte: its eight shifts at once. Its callers know its promise only, so that its body can change under them.
+// The step of one byte, the sheet's eight at once. Its callers know its promise only, so that its body can change under them.
 fn crc_byte(register: u16, byte: u8) -> u16
     ensures { λ r. ⌜ r ≡ crcByte register byte ⌝ }
 {
     let x = (register ^ byte as u16) % 256;
     let mut high = register >> 8;
-    // Put on the high byte and not on the whole: what follows of a byte is a shorter chain, and the next byte waits for it.
+    // On the high byte and not at the end: the next byte waits for all that is done here in turn.
     if u16::count_ones(x) % 2 == 1 {
         high = high ^ 0xC001;
     }
