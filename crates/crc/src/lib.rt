@@ -7,12 +7,12 @@ fn crc_byte(register: u16, byte: u8) -> u16
     ensures { λ r. ⌜ r ≡ crcByte register byte ⌝ }
 {
     let x = (register ^ byte as u16) % 256;
-    let mut high = register >> 8;
-    // On the high byte and not at the end: the next byte waits for all that is done here in turn.
+    let mut next = register >> 8;
+    // Before the shifts and not behind them: the next byte waits for all that is done here in turn.
     if u16::count_ones(x) % 2 == 1 {
-        high = high ^ 0xC001;
+        next = next ^ 0xC001;
     }
-    high ^ x << 6 ^ x << 7
+    next ^ x << 6 ^ x << 7
 }
 
 // The register after a part's bytes, from the register that an earlier part left.

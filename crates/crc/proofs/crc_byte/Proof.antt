@@ -16,9 +16,9 @@ returns c =
     let r = c .before .before .args .register in
     let b = c .before .before .args .byte in
     let x = bitXor r b % 256 in
-    let high : c .before .if1 .high ≡ marked x (r / 256) =
+    let next : c .before .if1 .next ≡ marked x (r / 256) =
     ⊎-elim (λ w. rw (eq-eqb (ones x % 2) 1 (w .0 .taken)) (w .1)) (λ w. rw (ne-eqb (ones x % 2) 1 (w .0 .left)) (w .1)) (c .before .if1 .came) in
-    rw high (byte-at-once r b (search needs))
+    rw next (byte-at-once r b (search needs))
 
 pub crc-byte-spec : {M : Type 1} → statement M
 crc-byte-spec = tie.close (tie.spec returns)
