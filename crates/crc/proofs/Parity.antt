@@ -120,3 +120,8 @@ byte-at-once r b h =
     let x = bitXor r b % 256 in
     let same : crcBits 8 x ≡ atOnce 0 x = eqb→eq _ _ (each agrees 256 computed x (omega arith)) in
     at-once-over (r / 256) x ∙ ap (bitXor (r / 256)) (sym same) ∙ sym (byte-over r b h)
+
+-- the parity is of x: that of the data byte, even here, would give 0x00C0
+of-x : crcByte 1 0 ≡ 0xC0C1
+unfolding crcByte crcBits crcBit
+of-x = refl
