@@ -80,7 +80,7 @@ int main(void)
             left -= answer.taken;
         }
     }
-    printf("t1 %u, flags %u, unfinished %zu, stamp %lu\n", (unsigned)board.settings.brk.t1, (unsigned)board.notes.flags, board.count,
-           (unsigned long)board.stamp);
+    printf("t1 %u, flags %u, unfinished %zu, stamp %lu\n", (unsigned)board.memory.settings.brk.t1, (unsigned)board.memory.notes.flags,
+           board.count, (unsigned long)board.stamp);
     return 0;
 }

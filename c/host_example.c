@@ -2,11 +2,19 @@
 #include "rivertosku.h"
 
 #include <stdio.h>
+#include <stdlib.h>
 
-static void tell_refusals(const struct rivertosku_settings *good)
+/* A refusal that the loop does not expect: nothing goes on behind it. */
+static void stop(const char *refused, uint8_t number)
+{
+    fprintf(stderr, "%s: %u\n", refused, (unsigned)number);
+    exit(EXIT_FAILURE);
+}
+
+static void tell_refusals(const struct rivertosku_blocks *good)
 {
     uint8_t frame[RIVERTOSKU_FRAME];
-    struct rivertosku_settings bad = *good;
+    struct rivertosku_blocks bad = *good;
     bad.mov.accel = 0;
     printf("accel 0: %u\n", (unsigned)rivertosku_write_set(RIVERTOSKU_MOV, bad, frame, sizeof frame).number);
     printf("room for 29 bytes: %u\n", (unsigned)rivertosku_write_set(RIVERTOSKU_MOV, *good, frame, 29).number);
@@ -22,7 +30,7 @@ static void tell_refusals(const struct rivertosku_settings *good)
 
 static void tell(const struct rivertosku_reading *reading)
 {
-    const struct rivertosku_mov *mov = &reading->settings.mov;
+    const struct rivertosku_mov *mov = &reading->blocks.mov;
     switch (reading->kind) {
     case RIVERTOSKU_ZERO:
         printf("zero\n");
@@ -50,7 +58,21 @@ static void tell(const struct rivertosku_reading *reading)
     }
 }
 
-/* Sends bytes over the line and tells every answer that comes back. */
+/* Tells every answer in what came back. */
+static void read_answers(const uint8_t *bytes, size_t length)
+{
+    while (length > 0) {
+        struct rivertosku_reading reading = rivertosku_read(bytes, length);
+        if (reading.number != RIVERTOSKU_READ) {
+            stop("not read", reading.number);
+        }
+        tell(&reading);
+        bytes += reading.length;
+        length -= reading.length;
+    }
+}
+
+/* Sends bytes over the line and reads what comes back. What the board does not take is offered again. */
 static void send_bytes(struct rivertosku_board *board, const uint8_t *bytes, size_t length)
 {
     printf("send ");
@@ -59,25 +81,23 @@ static void send_bytes(struct rivertosku_board *board, const uint8_t *bytes, siz
     }
     printf("\n");
 
-    uint8_t reply[RIVERTOSKU_ROOM];
-    struct rivertosku_answer call = rivertosku_receive(*board, bytes, length, 1000, reply, sizeof reply);
-    *board = call.board;
-    for (size_t at = 0; at < call.written;) {
-        struct rivertosku_reading reading = rivertosku_read(reply + at, call.written - at);
-        if (reading.number != RIVERTOSKU_READ) {
-            printf("not read: %u\n", (unsigned)reading.number);
-            return;
+    while (length > 0) {
+        uint8_t reply[RIVERTOSKU_ROOM];
+        struct rivertosku_answer call = rivertosku_receive(*board, bytes, length, 1000, reply, sizeof reply);
+        if (call.number != RIVERTOSKU_ACCEPTED) {
+            stop("not accepted", call.number);
         }
-        tell(&reading);
-        at += reading.length;
+        *board = call.board;
+        read_answers(reply, call.written);
+        bytes += call.taken;
+        length -= call.taken;
     }
 }
 
 static void ask(struct rivertosku_board *board, const uint8_t *frame, struct rivertosku_written written)
 {
     if (written.number != RIVERTOSKU_WRITTEN) {
-        printf("not written: %u\n", (unsigned)written.number);
-        return;
+        stop("not written", written.number);
     }
     send_bytes(board, frame, written.length);
 }
@@ -86,7 +106,7 @@ int main(void)
 {
     struct rivertosku_board board = rivertosku_fresh();
     uint8_t frame[RIVERTOSKU_FRAME];
-    struct rivertosku_settings wanted = {.mov = {.speed = 100000, .u_speed = 7, .accel = 2000, .decel = 3000, .antiplay_speed = 50}};
+    struct rivertosku_blocks wanted = {.mov = {.speed = 100000, .u_speed = 7, .accel = 2000, .decel = 3000, .antiplay_speed = 50}};
 
     ask(&board, frame, rivertosku_write_set(RIVERTOSKU_MOV, wanted, frame, sizeof frame));
     ask(&board, frame, rivertosku_write_get(RIVERTOSKU_MOV, frame, sizeof frame));

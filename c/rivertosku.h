@@ -7,15 +7,18 @@
 #include <stddef.h>
 #include <stdint.h>
 
-/* The longest piece and the least room for replies that a call accepts. */
+/* The longest frame of a request, which is also the longest answer. */
+#define RIVERTOSKU_FRAME 48
+
+/* The longest piece and the least room for replies that a call accepts: the room is that of the longest answer. */
 #define RIVERTOSKU_PIECE 250
-#define RIVERTOSKU_ROOM 48
+#define RIVERTOSKU_ROOM RIVERTOSKU_FRAME
 
 /* The number of a call's answer, and of a report's, which is 0 or 3. A refused call takes and writes nothing; the board stays as it is. */
 enum {
     RIVERTOSKU_ACCEPTED = 0,
-    RIVERTOSKU_PIECE_TOO_LONG = 1, /* piece over 250 bytes */
-    RIVERTOSKU_ROOM_TOO_SMALL = 2, /* reply room under 48 bytes */
+    RIVERTOSKU_PIECE_TOO_LONG = 1, /* piece over RIVERTOSKU_PIECE bytes */
+    RIVERTOSKU_ROOM_TOO_SMALL = 2, /* reply room under RIVERTOSKU_ROOM bytes */
     RIVERTOSKU_UNSOUND = 3         /* no board can be in this state */
 };
 
@@ -122,6 +125,7 @@ struct rivertosku_pid {
     float kdf;
 };
 
+/* A board's settings. */
 struct rivertosku_settings {
     struct rivertosku_mov mov;
     struct rivertosku_eng eng;
@@ -139,21 +143,26 @@ struct rivertosku_notes {
     size_t field;
 };
 
-/* What a board keeps between calls. Read it as you like; change it by rivertosku_receive and rivertosku_report_clock only. */
-struct rivertosku_board {
+/* What a board remembers of the units that have ended. */
+struct rivertosku_memory {
     struct rivertosku_settings settings;
     struct rivertosku_notes notes;
-    uint8_t held[48]; /* the bytes of the unfinished unit stand in front */
-    size_t count;     /* how many they are */
-    uint32_t stamp;   /* of the last byte taken */
+};
+
+/* What a board keeps between calls. Read it as you like; change it by rivertosku_receive and rivertosku_report_clock only. */
+struct rivertosku_board {
+    struct rivertosku_memory memory;
+    uint8_t held[RIVERTOSKU_FRAME]; /* the bytes of the unfinished unit stand in front */
+    size_t count;                   /* how many they are */
+    uint32_t stamp;                 /* of the last byte taken */
 };
 
 struct rivertosku_answer {
-    uint8_t number; /* 0 accepted, else the refusal */
-    uint8_t order;  /* to be carried out now, 0 for none */
+    struct rivertosku_board board;
     size_t taken;   /* bytes of the piece; offer the rest again with its stamp */
     size_t written; /* reply bytes, to be sent */
-    struct rivertosku_board board;
+    uint8_t number; /* 0 accepted, else the refusal */
+    uint8_t order;  /* to be carried out now, 0 for none */
 };
 
 struct rivertosku_report {
@@ -179,8 +188,16 @@ struct rivertosku_report rivertosku_report_clock(struct rivertosku_board board, 
 
 /* The optimiser's end, in liboptimiser.a. */
 
-/* The longest frame of a request, and the longest answer. */
-#define RIVERTOSKU_FRAME 48
+/* The blocks as a request or an answer brings them. */
+struct rivertosku_blocks {
+    struct rivertosku_mov mov;
+    struct rivertosku_eng eng;
+    struct rivertosku_pwr pwr;
+    struct rivertosku_eds eds;
+    struct rivertosku_hom hom;
+    struct rivertosku_brk brk;
+    struct rivertosku_pid pid;
+};
 
 /* The number of a written request. A refused one writes nothing. */
 enum {
@@ -219,22 +236,22 @@ struct rivertosku_written {
 struct rivertosku_reading {
     uint8_t number; /* 0 read, else the refusal */
     uint8_t kind;
-    uint8_t what;  /* the block of an echoed set or of data, the order of an echo; 0 otherwise */
-    size_t length; /* of the answer; 0 if refused */
-    struct rivertosku_settings settings; /* data stands in its block, all else is fresh; in range or not */
+    uint8_t what;                    /* the block of an echoed set or of data, the order of an echo; 0 otherwise */
+    size_t length;                   /* of the answer; 0 if refused */
+    struct rivertosku_blocks blocks; /* data stands in its block, all else is fresh; in range or not */
 };
 
 /* A request's frame at the front of out. Bytes past the frame are kept. */
 struct rivertosku_written rivertosku_write_get(uint8_t block, uint8_t *out, size_t out_len);
 struct rivertosku_written rivertosku_write_order(uint8_t order, uint8_t *out, size_t out_len);
 
-/* A set of one block, with its fields in the settings; the other blocks there are not looked at. */
-struct rivertosku_written rivertosku_write_set(uint8_t block, struct rivertosku_settings settings, uint8_t *out, size_t out_len);
+/* A set of one block, with its fields among the blocks; the other blocks there are not looked at. */
+struct rivertosku_written rivertosku_write_set(uint8_t block, struct rivertosku_blocks blocks, uint8_t *out, size_t out_len);
 
 /* One answer from the front of what the board sent. A gain that is no number comes as some NaN. */
 struct rivertosku_reading rivertosku_read(const uint8_t *bytes, size_t bytes_len);
 
-/* The sizes on a 64-bit machine, as Rust has them (rust/src/board.rs and host.rs, tests sizes). */
+/* The sizes on a 64-bit machine, as Rust has them (rust/src/blocks.rs, board.rs and host.rs, tests sizes). */
 #if SIZE_MAX == UINT64_MAX
 static_assert(sizeof(struct rivertosku_mov) == 20, "mov");
 static_assert(sizeof(struct rivertosku_eng) == 20, "eng");
@@ -245,11 +262,14 @@ static_assert(sizeof(struct rivertosku_brk) == 10, "brk");
 static_assert(sizeof(struct rivertosku_pid) == 20, "pid");
 static_assert(sizeof(struct rivertosku_settings) == 128, "settings");
 static_assert(sizeof(struct rivertosku_notes) == 24, "notes");
-static_assert(sizeof(struct rivertosku_board) == 216, "board");
-static_assert(sizeof(struct rivertosku_answer) == 240, "answer");
-static_assert(sizeof(struct rivertosku_report) == 224, "report");
+static_assert(sizeof(struct rivertosku_memory) == 152, "memory");
+/* The held bytes fill whole words; count and stamp follow. */
+static_assert(sizeof(struct rivertosku_board) == 152 + (RIVERTOSKU_FRAME + 7) / 8 * 8 + 16, "board");
+static_assert(sizeof(struct rivertosku_answer) == 24 + sizeof(struct rivertosku_board), "answer");
+static_assert(sizeof(struct rivertosku_report) == 8 + sizeof(struct rivertosku_board), "report");
+static_assert(sizeof(struct rivertosku_blocks) == 128, "blocks");
 static_assert(sizeof(struct rivertosku_written) == 16, "written");
-static_assert(sizeof(struct rivertosku_reading) == 144, "reading");
+static_assert(sizeof(struct rivertosku_reading) == 16 + sizeof(struct rivertosku_blocks), "reading");
 #endif
 
 #endif

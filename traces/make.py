@@ -1,10 +1,13 @@
 #!/usr/bin/env python3
-"""Writes the traces of this folder, NAME.bin, and what the bench must print of each, NAME.out. ./check needs neither."""
+"""Writes the traces of this folder, NAME.bin, and what the bench must print of each, NAME.out. With `--check`: writes nothing, and fails
+where a file differs from what it computes."""
 import os
 import sys
 
 sys.dont_write_bytecode = True
-from bench import ANY, BITS, BLOCKS, ORDERS, bench, frame, passes, record
+from bench import bench, record
+from model import ANY, BITS, BLOCKS, ORDERS, frame, passes
+from store import store
 
 
 def joined(first, step, pieces):
@@ -90,9 +93,7 @@ TRACES = {
 TRACES['too_long'] = TRACES['full'] + b'\0'
 assert len(TRACES['full']) == 60000
 
-os.chdir(os.path.dirname(os.path.abspath(__file__)))
+files = {}
 for name, trace in TRACES.items():
-    with open(name + '.bin', 'wb') as f:
-        f.write(trace)
-    with open(name + '.out', 'w') as f:
-        f.write(bench(trace))
+    files[name + '.bin'], files[name + '.out'] = trace, bench(trace).encode()
+store(os.path.dirname(os.path.abspath(__file__)), files)

@@ -3,99 +3,16 @@
 //! A `Board` comes from `fresh` and changes by `receive` and `report_clock` only, so it is always sound. What a call took and wrote comes
 //! as slices: the rest that is to be offered again, and the reply.
 
-/// Block 1.
-#[repr(C)]
-#[derive(Clone, Copy, Default, PartialEq, Debug)]
-pub struct Mov {
-    pub speed: u32,
-    pub u_speed: u8,
-    pub accel: u16,
-    pub decel: u16,
-    pub antiplay_speed: u32,
-    pub u_antiplay_speed: u8,
-}
+use crate::blocks::{Brk, Eds, Eng, Hom, Mov, Pid, Pwr};
 
-/// Block 2.
-#[repr(C)]
-#[derive(Clone, Copy, Default, PartialEq, Debug)]
-pub struct Eng {
-    pub nom_voltage: u16,
-    pub nom_current: u16,
-    pub nom_speed: u32,
-    pub u_nom_speed: u8,
-    pub engine_flags: u16,
-    pub antiplay: i16,
-    pub microstep_mode: u8,
-    pub steps_per_rev: u16,
-}
+/// The longest frame of a request, which is also the longest answer.
+pub const FRAME: usize = 48;
+/// The least room for replies that a call accepts: that of the longest answer.
+pub const ROOM: usize = FRAME;
+/// The longest piece that a call accepts.
+pub const PIECE: usize = 250;
 
-/// Block 3.
-#[repr(C)]
-#[derive(Clone, Copy, Default, PartialEq, Debug)]
-pub struct Pwr {
-    pub hold_current: u8,
-    pub curr_reduct_delay: u16,
-    pub power_off_delay: u16,
-    pub current_set_time: u16,
-    pub power_flags: u8,
-}
-
-/// Block 4.
-#[repr(C)]
-#[derive(Clone, Copy, Default, PartialEq, Debug)]
-pub struct Eds {
-    pub border_flags: u8,
-    pub ender_flags: u8,
-    pub left_border: i32,
-    pub u_left_border: i16,
-    pub right_border: i32,
-    pub u_right_border: i16,
-}
-
-/// Block 5.
-#[repr(C)]
-#[derive(Clone, Copy, Default, PartialEq, Debug)]
-pub struct Hom {
-    pub fast_home: u32,
-    pub u_fast_home: u8,
-    pub slow_home: u32,
-    pub u_slow_home: u8,
-    pub home_delta: i32,
-    pub u_home_delta: i16,
-    pub home_flags: u16,
-}
-
-/// Block 6.
-#[repr(C)]
-#[derive(Clone, Copy, Default, PartialEq, Debug)]
-pub struct Brk {
-    pub t1: u16,
-    pub t2: u16,
-    pub t3: u16,
-    pub t4: u16,
-    pub brake_flags: u8,
-}
-
-/// Block 7.
-#[repr(C)]
-#[derive(Clone, Copy, Default, Debug)]
-pub struct Pid {
-    pub kp_u: u16,
-    pub ki_u: u16,
-    pub kd_u: u16,
-    pub kpf: f32,
-    pub kif: f32,
-    pub kdf: f32,
-}
-
-/// Equal when the very bits are.
-impl PartialEq for Pid {
-    fn eq(&self, other: &Pid) -> bool {
-        let bits = |p: &Pid| (p.kp_u, p.ki_u, p.kd_u, p.kpf.to_bits(), p.kif.to_bits(), p.kdf.to_bits());
-        bits(self) == bits(other)
-    }
-}
-
+/// A board's settings.
 #[repr(C)]
 #[derive(Clone, Copy, Default, PartialEq, Debug)]
 pub struct Settings {
@@ -116,24 +33,31 @@ pub struct Notes {
     pub field: usize,
 }
 
+/// What a board remembers of the units that have ended.
+#[repr(C)]
+#[derive(Clone, Copy, PartialEq, Debug)]
+pub struct Memory {
+    pub settings: Settings,
+    pub notes: Notes,
+}
+
 /// What a board consists of. Every value can be handed to the library: it answers `Unsound` to those that no board reaches.
 #[repr(C)]
 #[derive(Clone, Copy, PartialEq, Debug)]
 pub struct Parts {
-    pub settings: Settings,
-    pub notes: Notes,
-    pub held: [u8; 48],
+    pub memory: Memory,
+    pub held: [u8; FRAME],
     pub count: usize,
     pub stamp: u32,
 }
 
 #[repr(C)]
 struct Answer {
-    number: u8,
-    order: u8,
+    board: Parts,
     taken: usize,
     written: usize,
-    board: Parts,
+    number: u8,
+    order: u8,
 }
 
 #[repr(C)]
@@ -215,11 +139,6 @@ pub struct Call<'p, 'r> {
 pub struct Board(Parts);
 
 impl Board {
-    /// The longest piece that a call accepts.
-    pub const PIECE: usize = 250;
-    /// The least room for replies that a call accepts.
-    pub const ROOM: usize = 48;
-
     /// A board that has taken nothing yet.
     pub fn fresh() -> Board {
         // SAFETY: no arguments; the struct is the library's, field for field.
@@ -258,17 +177,17 @@ impl Board {
     }
 
     pub fn settings(&self) -> &Settings {
-        &self.0.settings
+        &self.0.memory.settings
     }
 
     /// Bits 1 (command error), 2 (data error), 4 (value error).
     pub fn flags(&self) -> usize {
-        self.0.notes.flags
+        self.0.memory.notes.flags
     }
 
     /// Block and field last refused, if any was.
     pub fn last_refused(&self) -> Option<(usize, usize)> {
-        match (self.0.notes.block, self.0.notes.field) {
+        match (self.0.memory.notes.block, self.0.memory.notes.field) {
             (0, 0) => None,
             refused => Some(refused),
         }
@@ -276,7 +195,7 @@ impl Board {
 
     /// The bytes of the unit that has not ended yet.
     pub fn unfinished(&self) -> &[u8] {
-        &self.0.held[..self.0.count.min(48)]
+        &self.0.held[..self.0.count.min(FRAME)]
     }
 
     /// The stamp of the last byte taken.
@@ -303,28 +222,18 @@ mod tests {
     /// The sizes that c/rivertosku.h asserts. Shown by `cargo test sizes -- --nocapture`.
     #[test]
     fn sizes() {
-        let sizes = [
-            size_of::<Mov>(),
-            size_of::<Eng>(),
-            size_of::<Pwr>(),
-            size_of::<Eds>(),
-            size_of::<Hom>(),
-            size_of::<Brk>(),
-            size_of::<Pid>(),
-            size_of::<Settings>(),
-            size_of::<Notes>(),
-            size_of::<Parts>(),
-            size_of::<Answer>(),
-            size_of::<Report>(),
-        ];
-        println!("mov eng pwr eds hom brk pid settings notes board answer report: {sizes:?}");
-        assert_eq!(sizes, [20, 20, 10, 20, 24, 10, 20, 128, 24, 216, 240, 224]);
+        let sizes =
+            [size_of::<Settings>(), size_of::<Notes>(), size_of::<Memory>(), size_of::<Parts>(), size_of::<Answer>(), size_of::<Report>()];
+        println!("settings notes memory board answer report: {sizes:?}");
+        // The held bytes fill whole words; count and stamp follow.
+        let board = 152 + FRAME.next_multiple_of(8) + 16;
+        assert_eq!(sizes, [128, 24, 152, board, 24 + board, 8 + board]);
     }
 
     #[test]
     fn order_and_rest() {
         let mut board = Board::fresh();
-        let mut room = [0; Board::ROOM];
+        let mut room = [0; ROOM];
         let call = board.receive(b"stopxxxx\0le", 1000, &mut room);
         assert_eq!((call.number, call.order, call.reply), (Number::Accepted, Some(Order::Stop), &b"stop"[..]));
         let call = board.receive(call.rest, 1000, &mut room);
@@ -351,7 +260,7 @@ mod tests {
         ];
         for (stamp, reports, completed) in cases {
             let mut board = Board::fresh();
-            let mut room = [0; Board::ROOM];
+            let mut room = [0; ROOM];
             assert_eq!(board.receive(b"le", stamp, &mut room).taken, 2);
             for &now in reports {
                 assert_eq!(board.report_clock(now), Number::Accepted);
@@ -360,7 +269,7 @@ mod tests {
             assert_eq!((board.unfinished(), board.stamp(), board.flags()), (half, stamp, 0));
             assert_eq!(board.receive(b"ft", stamp.wrapping_add(100), &mut room).order, completed.then_some(Order::Left));
         }
-        let unsound = Board::from_parts(Parts { count: 49, ..*Board::fresh().parts() });
+        let unsound = Board::from_parts(Parts { count: FRAME + 1, ..*Board::fresh().parts() });
         let mut board = unsound.clone();
         assert_eq!((board.report_clock(401), board), (Number::Unsound, unsound));
     }

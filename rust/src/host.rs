@@ -1,6 +1,8 @@
 //! The optimiser's end of the link, liboptimiser.a, behind safe types: a request is written as its frame, the board's answers are read.
 
-use crate::board::{Brk, Eds, Eng, Hom, Mov, Order, Pid, Pwr, Settings};
+use crate::blocks::{Brk, Eds, Eng, Hom, Mov, Pid, Pwr};
+use crate::board::Order;
+pub use crate::board::FRAME;
 
 #[derive(Clone, Copy, PartialEq, Eq, Debug)]
 pub enum Block {
@@ -29,6 +31,19 @@ impl Block {
     }
 }
 
+/// The blocks as a request or an answer brings them.
+#[repr(C)]
+#[derive(Clone, Copy, Default, PartialEq, Debug)]
+pub struct Blocks {
+    pub mov: Mov,
+    pub eng: Eng,
+    pub pwr: Pwr,
+    pub eds: Eds,
+    pub hom: Hom,
+    pub brk: Brk,
+    pub pid: Pid,
+}
+
 /// The fields of one block, in range or not.
 #[derive(Clone, Copy, PartialEq, Debug)]
 pub enum Fields {
@@ -42,16 +57,16 @@ pub enum Fields {
 }
 
 impl Fields {
-    /// A block's fields out of all settings.
-    pub fn of(settings: &Settings, block: Block) -> Fields {
+    /// A block's fields out of all blocks.
+    pub fn of(blocks: &Blocks, block: Block) -> Fields {
         match block {
-            Block::Mov => Fields::Mov(settings.mov),
-            Block::Eng => Fields::Eng(settings.eng),
-            Block::Pwr => Fields::Pwr(settings.pwr),
-            Block::Eds => Fields::Eds(settings.eds),
-            Block::Hom => Fields::Hom(settings.hom),
-            Block::Brk => Fields::Brk(settings.brk),
-            Block::Pid => Fields::Pid(settings.pid),
+            Block::Mov => Fields::Mov(blocks.mov),
+            Block::Eng => Fields::Eng(blocks.eng),
+            Block::Pwr => Fields::Pwr(blocks.pwr),
+            Block::Eds => Fields::Eds(blocks.eds),
+            Block::Hom => Fields::Hom(blocks.hom),
+            Block::Brk => Fields::Brk(blocks.brk),
+            Block::Pid => Fields::Pid(blocks.pid),
         }
     }
 
@@ -67,17 +82,17 @@ impl Fields {
         }
     }
 
-    /// Settings with these fields in their block; the writer looks at no other.
-    fn settings(&self) -> Settings {
-        let zeros = Settings::default();
+    /// These fields in their block; the writer looks at no other.
+    fn blocks(&self) -> Blocks {
+        let zeros = Blocks::default();
         match *self {
-            Fields::Mov(mov) => Settings { mov, ..zeros },
-            Fields::Eng(eng) => Settings { eng, ..zeros },
-            Fields::Pwr(pwr) => Settings { pwr, ..zeros },
-            Fields::Eds(eds) => Settings { eds, ..zeros },
-            Fields::Hom(hom) => Settings { hom, ..zeros },
-            Fields::Brk(brk) => Settings { brk, ..zeros },
-            Fields::Pid(pid) => Settings { pid, ..zeros },
+            Fields::Mov(mov) => Blocks { mov, ..zeros },
+            Fields::Eng(eng) => Blocks { eng, ..zeros },
+            Fields::Pwr(pwr) => Blocks { pwr, ..zeros },
+            Fields::Eds(eds) => Blocks { eds, ..zeros },
+            Fields::Hom(hom) => Blocks { hom, ..zeros },
+            Fields::Brk(brk) => Blocks { brk, ..zeros },
+            Fields::Pid(pid) => Blocks { pid, ..zeros },
         }
     }
 }
@@ -135,27 +150,24 @@ struct FlatAnswer {
     kind: u8,
     what: u8,
     length: usize,
-    settings: Settings,
+    blocks: Blocks,
 }
 
 extern "C" {
     fn rivertosku_write_get(block: u8, out: *mut u8, out_len: usize) -> FlatWritten;
-    fn rivertosku_write_set(block: u8, settings: Settings, out: *mut u8, out_len: usize) -> FlatWritten;
+    fn rivertosku_write_set(block: u8, blocks: Blocks, out: *mut u8, out_len: usize) -> FlatWritten;
     fn rivertosku_write_order(order: u8, out: *mut u8, out_len: usize) -> FlatWritten;
     fn rivertosku_read(bytes: *const u8, bytes_len: usize) -> FlatAnswer;
 }
 
-/// The longest frame of a request, and the longest answer.
-pub const FRAME: usize = 48;
-
 /// Writes a request's frame to the front of a buffer and gives its length. A refusal writes nothing; bytes past the frame are kept.
 pub fn write(request: &Request, out: &mut [u8]) -> Result<usize, WriteRefusal> {
     let (to, room) = (out.as_mut_ptr(), out.len());
-    // SAFETY: the buffer is live and of this length, and the library does not keep it; any number and any settings are allowed.
+    // SAFETY: the buffer is live and of this length, and the library does not keep it; any number and any blocks are allowed.
     let written = unsafe {
         match request {
             Request::Get(block) => rivertosku_write_get(*block as u8, to, room),
-            Request::Set(fields) => rivertosku_write_set(fields.block() as u8, fields.settings(), to, room),
+            Request::Set(fields) => rivertosku_write_set(fields.block() as u8, fields.blocks(), to, room),
             Request::Order(order) => rivertosku_write_order(*order as u8, to, room),
         }
     };
@@ -188,7 +200,7 @@ fn answer(read: &FlatAnswer) -> Answer {
         1 => Answer::Zero,
         2 => Answer::SetEcho(block()),
         3 => Answer::OrderEcho(order()),
-        4 => Answer::Data(Fields::of(&read.settings, block())),
+        4 => Answer::Data(Fields::of(&read.blocks, block())),
         5 => Answer::Errc,
         6 => Answer::Errd,
         7 => Answer::Errv,
@@ -199,13 +211,14 @@ fn answer(read: &FlatAnswer) -> Answer {
 #[cfg(test)]
 mod tests {
     use super::*;
-    use crate::board::Board;
+    use crate::board::{Board, ROOM};
+    use crate::same;
     use std::mem::size_of;
 
     /// The sizes that c/rivertosku.h asserts.
     #[test]
     fn sizes() {
-        assert_eq!([size_of::<FlatWritten>(), size_of::<FlatAnswer>()], [16, 144]);
+        assert_eq!([size_of::<Blocks>(), size_of::<FlatWritten>(), size_of::<FlatAnswer>()], [128, 16, 144]);
     }
 
     fn brake(t1: u16) -> Fields {
@@ -253,14 +266,14 @@ mod tests {
             let flat = unsafe {
                 [
                     rivertosku_write_get(number, to, room),
-                    rivertosku_write_set(number, Settings::default(), to, room),
+                    rivertosku_write_set(number, Blocks::default(), to, room),
                     rivertosku_write_order(number, to, room),
                 ]
             };
             assert!(flat.iter().all(|written| (written.number, written.length) == (9, 0)));
         }
         // SAFETY: as in `write`.
-        let flat = unsafe { [rivertosku_write_set(1, Settings::default(), to, room), rivertosku_write_get(1, to, 3)] };
+        let flat = unsafe { [rivertosku_write_set(1, Blocks::default(), to, room), rivertosku_write_get(1, to, 3)] };
         assert_eq!(flat.map(|written| (written.number, written.length)), [(3, 0), (4, 0)]);
         assert_eq!(out, [0xAA; FRAME]);
     }
@@ -268,21 +281,21 @@ mod tests {
     /// All blocks but the one read are fresh, and all of them in a refusal.
     #[test]
     fn other_blocks_are_fresh() {
-        let fresh = *Board::fresh().settings();
+        let fresh = same::blocks_of(Board::fresh().settings());
         let data = brake_frame(b'g');
-        let cases: [(&[u8], _, Settings); 6] = [
-            (&data, (0, 4, 6, 25), Settings { brk: Brk { t1: 65535, ..Brk::default() }, ..fresh }),
+        let cases: [(&[u8], _, Blocks); 6] = [
+            (&data, (0, 4, 6, 25), Blocks { brk: Brk { t1: 65535, ..Brk::default() }, ..fresh }),
             (b"loft", (0, 3, 7, 4), fresh),
             (b"err", (5, 0, 0, 0), fresh),
             (b"errx", (6, 0, 0, 0), fresh),
             (&data[..24], (7, 0, 0, 0), fresh),
             (&[&data[..24], &[1]].concat(), (8, 0, 0, 0), fresh),
         ];
-        for (bytes, numbers, settings) in cases {
+        for (bytes, numbers, blocks) in cases {
             // SAFETY: as in `read`.
             let flat = unsafe { rivertosku_read(bytes.as_ptr(), bytes.len()) };
             assert_eq!((flat.number, flat.kind, flat.what, flat.length), numbers);
-            assert_eq!(flat.settings, settings);
+            assert_eq!(flat.blocks, blocks);
         }
     }
 
@@ -322,7 +335,7 @@ mod tests {
 
     /// Offers a request's frame whole to a board; the board's answer.
     fn ask(board: &mut Board, request: Request) -> Answer {
-        let (mut frame, mut room) = ([0; FRAME], [0; Board::ROOM]);
+        let (mut frame, mut room) = ([0; FRAME], [0; ROOM]);
         let length = write(&request, &mut frame).expect("a request in range");
         let call = board.receive(&frame[..length], 0, &mut room);
         assert_eq!(call.rest, b"");
@@ -360,7 +373,7 @@ mod tests {
         ];
         for fields in sets {
             assert_eq!(ask(&mut board, Request::Set(fields)), Answer::SetEcho(fields.block()));
-            assert_eq!(Fields::of(board.settings(), fields.block()), fields);
+            assert_eq!(Fields::of(&same::blocks_of(board.settings()), fields.block()), fields);
             assert_eq!(ask(&mut board, Request::Get(fields.block())), Answer::Data(fields));
         }
         assert_eq!(ask(&mut board, Request::Order(Order::Home)), Answer::OrderEcho(Order::Home));

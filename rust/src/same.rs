@@ -2,9 +2,14 @@
 //! what differs.
 
 use crate::board::{Board, Order, Parts, Settings};
-use crate::host::{self, Answer, Block, Fields, ReadRefusal, Request, WriteRefusal};
-use crate::second::{Fault, Second, DATA};
+use crate::fault::Fault;
+use crate::host::{self, Answer, Block, Blocks, Fields, ReadRefusal, Request, WriteRefusal, FRAME};
+use crate::second::Second;
 use crate::second_host;
+use crate::table::{BLOCKS, DATA};
+
+// The table of the second ones is to have the library's longest frame.
+const _: () = assert!(FRAME == crate::table::FRAME);
 
 /// A field on the wire, low byte first.
 trait Field {
@@ -31,55 +36,41 @@ macro_rules! fields {
 
 fields! { u8 u16 u32 i16 i32 f32 }
 
+macro_rules! each {
+    ($block:ident: $($field:ident)*) => { vec![$(&mut $block.$field),*] };
+}
+
 /// A block's fields in numbered order.
-fn fields(settings: &mut Settings, block: usize) -> Vec<&mut dyn Field> {
-    let Settings { mov, eng, pwr, eds, hom, brk, pid } = settings;
+fn fields(blocks: &mut Blocks, block: usize) -> Vec<&mut dyn Field> {
+    let Blocks { mov, eng, pwr, eds, hom, brk, pid } = blocks;
     match block {
-        1 => vec![&mut mov.speed, &mut mov.u_speed, &mut mov.accel, &mut mov.decel, &mut mov.antiplay_speed, &mut mov.u_antiplay_speed],
-        2 => vec![
-            &mut eng.nom_voltage,
-            &mut eng.nom_current,
-            &mut eng.nom_speed,
-            &mut eng.u_nom_speed,
-            &mut eng.engine_flags,
-            &mut eng.antiplay,
-            &mut eng.microstep_mode,
-            &mut eng.steps_per_rev,
-        ],
-        3 => vec![
-            &mut pwr.hold_current,
-            &mut pwr.curr_reduct_delay,
-            &mut pwr.power_off_delay,
-            &mut pwr.current_set_time,
-            &mut pwr.power_flags,
-        ],
-        4 => vec![
-            &mut eds.border_flags,
-            &mut eds.ender_flags,
-            &mut eds.left_border,
-            &mut eds.u_left_border,
-            &mut eds.right_border,
-            &mut eds.u_right_border,
-        ],
-        5 => vec![
-            &mut hom.fast_home,
-            &mut hom.u_fast_home,
-            &mut hom.slow_home,
-            &mut hom.u_slow_home,
-            &mut hom.home_delta,
-            &mut hom.u_home_delta,
-            &mut hom.home_flags,
-        ],
-        6 => vec![&mut brk.t1, &mut brk.t2, &mut brk.t3, &mut brk.t4, &mut brk.brake_flags],
-        7 => vec![&mut pid.kp_u, &mut pid.ki_u, &mut pid.kd_u, &mut pid.kpf, &mut pid.kif, &mut pid.kdf],
+        1 => each!(mov: speed u_speed accel decel antiplay_speed u_antiplay_speed),
+        2 => each!(eng: nom_voltage nom_current nom_speed u_nom_speed engine_flags antiplay microstep_mode steps_per_rev),
+        3 => each!(pwr: hold_current curr_reduct_delay power_off_delay current_set_time power_flags),
+        4 => each!(eds: border_flags ender_flags left_border u_left_border right_border u_right_border),
+        5 => each!(hom: fast_home u_fast_home slow_home u_slow_home home_delta u_home_delta home_flags),
+        6 => each!(brk: t1 t2 t3 t4 brake_flags),
+        7 => each!(pid: kp_u ki_u kd_u kpf kif kdf),
         _ => unreachable!("seven blocks"),
     }
 }
 
+/// The board's settings as the host's blocks.
+pub fn blocks_of(settings: &Settings) -> Blocks {
+    let Settings { mov, eng, pwr, eds, hom, brk, pid } = *settings;
+    Blocks { mov, eng, pwr, eds, hom, brk, pid }
+}
+
+/// The host's blocks as the board's settings.
+fn settings_of(blocks: &Blocks) -> Settings {
+    let Blocks { mov, eng, pwr, eds, hom, brk, pid } = *blocks;
+    Settings { mov, eng, pwr, eds, hom, brk, pid }
+}
+
 /// A block's data section, zeros behind it.
-pub fn data_of(settings: &Settings, block: usize) -> [u8; DATA] {
+fn data_of(settings: &Settings, block: usize) -> [u8; DATA] {
     let mut bytes = Vec::with_capacity(DATA);
-    for field in fields(&mut settings.clone(), block) {
+    for field in fields(&mut blocks_of(settings), block) {
         field.write(&mut bytes);
     }
     let mut data = [0; DATA];
@@ -87,19 +78,27 @@ pub fn data_of(settings: &Settings, block: usize) -> [u8; DATA] {
     data
 }
 
-/// Puts a data section into a block, in range or not.
-pub fn put_data(settings: &mut Settings, block: usize, mut data: &[u8]) {
-    for field in fields(settings, block) {
+/// Puts a data section among the blocks, in range or not.
+fn put_fields(blocks: &mut Blocks, block: usize, mut data: &[u8]) {
+    for field in fields(blocks, block) {
         field.read(&mut data);
     }
 }
 
+/// Puts a data section into the settings, in range or not.
+pub fn put_data(settings: &mut Settings, block: usize, data: &[u8]) {
+    let mut blocks = blocks_of(settings);
+    put_fields(&mut blocks, block, data);
+    *settings = settings_of(&blocks);
+}
+
 /// The second receiver in a board's state.
 pub fn second_of(parts: &Parts) -> Second {
+    let notes = parts.memory.notes;
     Second {
-        data: std::array::from_fn(|i| data_of(&parts.settings, i + 1)),
-        flags: parts.notes.flags,
-        refused: (parts.notes.block, parts.notes.field),
+        data: std::array::from_fn(|i| data_of(&parts.memory.settings, i + 1)),
+        flags: notes.flags,
+        refused: (notes.block, notes.field),
         unit: parts.held,
         len: parts.count,
         stamp: parts.stamp,
@@ -109,8 +108,8 @@ pub fn second_of(parts: &Parts) -> Second {
 /// In what the two states differ, if they do. Bytes behind the unfinished ones are no part of a state.
 pub fn difference(board: &Board, second: &Second) -> Option<String> {
     let parts = board.parts();
-    for block in 1..=7 {
-        let (a, b) = (data_of(&parts.settings, block), second.data[block - 1]);
+    for block in 1..=BLOCKS {
+        let (a, b) = (data_of(&parts.memory.settings, block), second.data[block - 1]);
         if a != b {
             return Some(format!("block {block}: library {a:02x?}, second {b:02x?}"));
         }
@@ -118,11 +117,11 @@ pub fn difference(board: &Board, second: &Second) -> Option<String> {
     if board.flags() != second.flags {
         return Some(format!("flags: library {}, second {}", board.flags(), second.flags));
     }
-    let refused = (parts.notes.block, parts.notes.field);
+    let refused = (parts.memory.notes.block, parts.memory.notes.field);
     if refused != second.refused {
         return Some(format!("last refused: library {refused:?}, second {:?}", second.refused));
     }
-    let unfinished = &second.unit[..second.len.min(48)];
+    let unfinished = &second.unit[..second.len.min(FRAME)];
     if parts.count != second.len || board.unfinished() != unfinished {
         return Some(format!("unfinished: library {} {:02x?}, second {} {unfinished:02x?}", parts.count, board.unfinished(), second.len));
     }
@@ -142,9 +141,9 @@ fn order_numbered(number: usize) -> Order {
 
 /// The fields of a block that a data section holds.
 fn fields_in(number: usize, data: &[u8]) -> Fields {
-    let mut settings = Settings::default();
-    put_data(&mut settings, number, data);
-    Fields::of(&settings, block_numbered(number))
+    let mut blocks = Blocks::default();
+    put_fields(&mut blocks, number, data);
+    Fields::of(&blocks, block_numbered(number))
 }
 
 /// One NaN for all, since the machine bits of a NaN are not promised.
@@ -190,7 +189,7 @@ pub fn buffers<const N: usize>(salt: usize) -> ([u8; N], [u8; N]) {
 /// Both hosts write a request into this much room: the frame or the refusal, or in what they differ.
 pub fn write(request: &second_host::Request, room: usize, fault: Fault, salt: usize) -> Result<Result<Vec<u8>, WriteRefusal>, String> {
     // The buffer goes on behind the room, to see that nothing is written there.
-    let (mut ours, mut theirs) = buffers::<80>(salt);
+    let (mut ours, mut theirs) = buffers::<{ FRAME + 32 }>(salt);
     let a = host::write(&request_of(request), &mut ours[..room]);
     let b = second_host::write(fault, request, &mut theirs[..room]);
     if a.map_err(|refusal| refusal as u8) != b {

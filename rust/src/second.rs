@@ -2,108 +2,22 @@
 //! the data section that a get sends.
 //! It can be broken on purpose (`Fault`), to see that a comparison notices.
 
-macro_rules! faults {
-    ($($case:ident = $name:literal,)*) => {
-        /// One place in which the receiver or the host (second_host) is wrong.
-        #[derive(Clone, Copy, PartialEq, Eq, Debug)]
-        pub enum Fault { None, $($case,)* }
+use crate::fault::Fault;
+use crate::table::{self, row, BLOCKS, DATA, FRAME, TOTAL};
 
-        impl Fault {
-            pub const ALL: &'static [Fault] = &[$(Fault::$case,)*];
-
-            pub fn name(self) -> &'static str {
-                match self { Fault::None => "none", $(Fault::$case => $name,)* }
-            }
-        }
-    };
-}
-
-faults! {
-    // "Wrong receivers that look right"
-    StoredAsTheyCome = "stored-as-they-come",
-    CrcOverIdentifier = "crc-over-identifier",
-    CrcHighByteFirst = "crc-high-byte-first",
-    CrcSentHighByteFirst = "crc-sent-high-byte-first",
-    ErrcSlidesByOne = "errc-slides-by-one",
-    ZeroResynchronises = "zero-resynchronises",
-    FourHundredTooLong = "400-too-long",
-    PlainSubtraction = "plain-subtraction",
-    // "What the promises have to shut out"
-    RefusesEachCall = "refuses-each-call",
-    ConstantReply = "constant-reply",
-    TakesNoByte = "takes-no-byte",
-    EchoesLater = "echoes-later",
-    InventsTheCount = "invents-the-count",
-    // Others near to these
-    HalfASetting = "half-a-setting",
-    LastBadField = "last-bad-field",
-    RangeBeforeCrc = "range-before-crc",
-    FlagsOverwritten = "flags-overwritten",
-    StampNotSet = "stamp-not-set",
-    RoomOneOff = "room-one-off",
-    FitOneOff = "fit-one-off",
-    PieceOneOff = "piece-one-off",
-    RefusalsExchanged = "refusals-exchanged",
-    GoesOnAfterOrder = "goes-on-after-order",
-    EmptySetsStamp = "empty-sets-stamp",
-    ReservedKept = "reserved-kept",
-    InfinityPasses = "infinity-passes",
-    // A field's flag bits
-    UnknownBitPasses = "unknown-bit-passes",
-    KnownBitRefused = "known-bit-refused",
-    UnknownBitMisnumbered = "unknown-bit-misnumbered",
-    UnknownBitLast = "unknown-bit-last",
-    // A state accepted that breaks one rule of soundness
-    ZeroBegins = "unsound-zero-first",
-    AnyNameBegins = "unsound-name",
-    WholeSetBegins = "unsound-whole-set",
-    CountOver48 = "unsound-count",
-    FlagsOver7 = "unsound-flags",
-    FieldOutOfRange = "unsound-field",
-    UnknownBit = "unsound-unknown-bit",
-    // A report of the time
-    ReportSetsStamp = "report-sets-stamp",
-    Report400TooLong = "report-400-too-long",
-    ReportDropsAlways = "report-drops-always",
-    ReportDropsNever = "report-drops-never",
-    ReportPlainSubtraction = "report-plain-subtraction",
-    ReportFlags = "report-flags",
-    ReportRefusesSound = "report-refuses-sound",
-    ReportAcceptsUnsound = "report-accepts-unsound",
-    // A host's writer
-    HostRangeSkipped = "host-range-skipped",
-    HostRangeOneOff = "host-range-one-off",
-    HostUnknownBitPasses = "host-unknown-bit-passes",
-    HostReservedSent = "host-reserved-sent",
-    HostCrcHighByteFirst = "host-crc-high-byte-first",
-    HostRoomBeforeRange = "host-room-before-range",
-    HostWritesPast = "host-writes-past",
-    HostWritesWhatFits = "host-writes-what-fits",
-    HostWrittenOneOff = "host-written-one-off",
-    // A host's reader
-    HostZeroNotFirst = "host-zero-not-first",
-    HostCutBeforeName = "host-cut-before-name",
-    HostCrcUnread = "host-crc-unread",
-    HostReadOneOff = "host-read-one-off",
-    HostReaderJudgesRange = "host-reader-judges-range",
-    HostReaderJudgesReserved = "host-reader-judges-reserved",
-}
-
-const TOTAL: [usize; 7] = [30, 34, 20, 26, 33, 25, 48];
-const RESERVED: [usize; 7] = [10, 12, 6, 6, 9, 10, 24];
-
-/// The longest data section, that of pid.
-pub const DATA: usize = 42;
+/// 01's longest piece, and the longest wait inside a unit.
+const PIECE: usize = 250;
+const WAIT: u32 = 400;
 
 #[derive(Clone, PartialEq, Debug)]
 pub struct Second {
     /// Each block's data section, reserved bytes zero, zeros behind it.
-    pub data: [[u8; DATA]; 7],
+    pub data: [[u8; DATA]; BLOCKS],
     pub flags: usize,
     /// Block and field last refused.
     pub refused: (usize, usize),
     /// The unfinished unit: its first `len` bytes count.
-    pub unit: [u8; 48],
+    pub unit: [u8; FRAME],
     pub len: usize,
     pub stamp: u32,
 }
@@ -126,30 +40,14 @@ enum Meaning {
 }
 
 fn meaning(name: [u8; 4]) -> Meaning {
-    let block = match &name[1..] {
-        b"mov" => 1,
-        b"eng" => 2,
-        b"pwr" => 3,
-        b"eds" => 4,
-        b"hom" => 5,
-        b"brk" => 6,
-        b"pid" => 7,
-        _ => 0,
-    };
-    match (name[0], block) {
-        (b's', 1..) => return Meaning::Set(block),
-        (b'g', 1..) => return Meaning::Get(block),
+    match (name[0], table::block_named(&name[1..])) {
+        (b's', Some(block)) => return Meaning::Set(block),
+        (b'g', Some(block)) => return Meaning::Get(block),
         _ => {}
     }
-    match &name {
-        b"stop" => Meaning::Order(1),
-        b"sstp" => Meaning::Order(2),
-        b"pwof" => Meaning::Order(3),
-        b"left" => Meaning::Order(4),
-        b"rigt" => Meaning::Order(5),
-        b"home" => Meaning::Order(6),
-        b"loft" => Meaning::Order(7),
-        _ => Meaning::Unknown,
+    match table::order_named(&name) {
+        Some(order) => Meaning::Order(order as u8),
+        None => Meaning::Unknown,
     }
 }
 
@@ -168,66 +66,8 @@ pub fn crc(bytes: &[u8]) -> u16 {
     register
 }
 
-/// The number of the first field of a block that is out of its range, 0 if there is none.
-#[inline(always)]
-fn bad_field(block: usize, data: &[u8; DATA], fault: Fault) -> usize {
-    let u16_at = |at: usize| u16::from_le_bytes([data[at], data[at + 1]]);
-    let u32_at = |at: usize| u32::from_le_bytes([data[at], data[at + 1], data[at + 2], data[at + 3]]);
-    let past_255 = |at: usize| !(-255..=255).contains(&(u16_at(at) as i16));
-    let not_finite = |at: usize| fault != Fault::InfinityPasses && u32_at(at) >> 23 & 0xFF == 0xFF;
-    let mut found = 0;
-    let mut test = |field: usize, bad: bool| {
-        if bad && (found == 0 || fault == Fault::LastBadField) {
-            found = field;
-        }
-    };
-    match block {
-        1 => {
-            test(1, u32_at(0) > 100_000);
-            test(3, u16_at(5) == 0);
-            test(4, u16_at(7) == 0);
-            test(5, u32_at(9) > 100_000);
-        }
-        2 => {
-            let unknown = u16_at(9) & !0xFF != 0;
-            test(2, !(15..=8000).contains(&u16_at(2)));
-            test(3, !(1..=100_000).contains(&u32_at(4)));
-            test(5, unknown && fault != Fault::UnknownBitLast);
-            test(7, !(1..=9).contains(&data[13]));
-            test(8, u16_at(14) == 0);
-            test(5, unknown && fault == Fault::UnknownBitLast);
-        }
-        3 => {
-            let known = if fault == Fault::UnknownBitPasses { 0x0F } else { 0x07 };
-            test(1, data[0] > 100);
-            test(5, data[7] & !known != 0);
-        }
-        4 => {
-            let ender = if fault == Fault::UnknownBitMisnumbered { 1 } else { 2 };
-            test(1, data[0] & !0x0F != 0);
-            test(ender, data[1] & !0x07 != 0);
-            test(4, past_255(6));
-            test(6, past_255(12));
-        }
-        5 => {
-            let known = if fault == Fault::KnownBitRefused { 0xFF } else { 0x1FF };
-            test(1, u32_at(0) > 100_000);
-            test(3, u32_at(5) > 100_000);
-            test(6, past_255(14));
-            test(7, u16_at(16) & !known != 0);
-        }
-        6 => test(5, data[8] & !0x03 != 0),
-        7 => {
-            test(4, not_finite(6));
-            test(5, not_finite(10));
-            test(6, not_finite(14));
-        }
-        _ => {}
-    }
-    found
-}
-
 /// What the next byte makes of the unfinished unit.
+#[derive(Clone, Copy)]
 enum End {
     NotYet,
     Zero,
@@ -237,16 +77,27 @@ enum End {
     Set(usize),
 }
 
+impl End {
+    /// The length of its reply.
+    fn due(self) -> usize {
+        match self {
+            End::NotYet => 0,
+            End::Zero => 1,
+            End::Get(block) => TOTAL[block - 1],
+            End::Unknown | End::Order(_) | End::Set(_) => 4,
+        }
+    }
+}
+
+// What a call needs is inlined, so that it holds no test of a fault.
 impl Second {
     pub fn fresh() -> Second {
-        let mut data = [[0; DATA]; 7];
-        data[0][5] = 1; // Accel
-        data[0][7] = 1; // Decel
-        data[1][2] = 15; // NomCurrent
-        data[1][4] = 1; // NomSpeed
-        data[1][13] = 1; // MicrostepMode
-        data[1][14] = 1; // StepsPerRev
-        Second { data, flags: 0, refused: (0, 0), unit: [0; 48], len: 0, stamp: 0 }
+        let mut data = [[0; DATA]; BLOCKS];
+        for (i, data) in data.iter_mut().enumerate() {
+            let fresh = row(i + 1).fresh();
+            data[..fresh.len()].copy_from_slice(&fresh);
+        }
+        Second { data, flags: 0, refused: (0, 0), unit: [0; FRAME], len: 0, stamp: 0 }
     }
 
     /// One call of 01.
@@ -276,22 +127,21 @@ impl Second {
             0 => {}
             1..=3 if self.unit[0] == 0 => return Some(Fault::ZeroBegins),
             1..=3 => {}
-            4..=48 => match self.name() {
+            4..=FRAME => match self.name() {
                 Meaning::Set(block) if self.len >= TOTAL[block - 1] => return Some(Fault::WholeSetBegins),
                 Meaning::Set(_) => {}
                 _ => return Some(Fault::AnyNameBegins),
             },
-            _ => return Some(Fault::CountOver48),
+            _ => return Some(Fault::CountOverFrame),
         }
         if self.flags > 7 {
             return Some(Fault::FlagsOver7);
         }
-        for block in 1..=7 {
-            match (block, bad_field(block, &self.data[block - 1], fault)) {
-                (_, 0) => {}
-                // The flag fields
-                (2 | 3 | 6, 5) | (4, 1 | 2) | (5, 7) => return Some(Fault::UnknownBit),
-                _ => return Some(Fault::FieldOutOfRange),
+        for block in 1..=BLOCKS {
+            let bad = fault.bad_field(block, &self.data[block - 1]);
+            if bad != 0 {
+                let flags = row(block).fields[bad - 1].has_flags();
+                return Some(if flags { Fault::UnknownBit } else { Fault::FieldOutOfRange });
             }
         }
         None
@@ -306,7 +156,14 @@ impl Second {
         self.flags = if fault == Fault::FlagsOverwritten { bit } else { self.flags | bit };
     }
 
-    // Inlined, so that `report_clock` holds no test of a fault. The soundness is a right call's, so that a wrong one has to show in calls.
+    /// Whether the last byte came too long ago, for a receiver that may subtract plainly or be one off.
+    #[inline(always)]
+    fn too_late(&self, now: u32, plain: bool, one_off: bool) -> bool {
+        let wait = if plain { now.saturating_sub(self.stamp) } else { now.wrapping_sub(self.stamp) };
+        wait > if one_off { WAIT - 1 } else { WAIT }
+    }
+
+    // The soundness is a right call's, so that a wrong one has to show in calls.
     #[inline(always)]
     fn look(&mut self, fault: Fault, now: u32) -> u8 {
         let refused = match self.unsound(Fault::None) {
@@ -316,17 +173,12 @@ impl Second {
         if refused {
             return 3;
         }
-        let wait = match fault {
-            Fault::ReportPlainSubtraction => now.saturating_sub(self.stamp),
-            _ => now.wrapping_sub(self.stamp),
-        };
-        let over = match fault {
+        let late = match fault {
             Fault::ReportDropsAlways => true,
             Fault::ReportDropsNever => false,
-            Fault::Report400TooLong => wait > 399,
-            _ => wait > 400,
+            _ => self.too_late(now, fault == Fault::ReportPlainSubtraction, fault == Fault::Report400TooLong),
         };
-        if self.len > 0 && over {
+        if self.len > 0 && late {
             self.len = 0;
             if fault == Fault::ReportFlags {
                 self.raise(fault, 1);
@@ -338,137 +190,104 @@ impl Second {
         0
     }
 
-    // Inlined, so that `call` holds no test of a fault.
+    /// The answer's number, if the call ends before its first byte.
     #[inline(always)]
-    fn run(&mut self, fault: Fault, piece: &[u8], stamp: u32, reply: &mut [u8]) -> Outcome {
-        let mut out = Outcome::default();
+    fn refusal(&self, fault: Fault, piece: usize, room: usize) -> Option<u8> {
+        let long = piece > if fault == Fault::PieceOneOff { PIECE - 1 } else { PIECE };
+        let short = room < if fault == Fault::RoomOneOff { FRAME - 1 } else { FRAME };
         if fault == Fault::RefusesEachCall {
-            out.number = 3;
-            return out;
+            return Some(3);
         }
-        let short = reply.len() < if fault == Fault::RoomOneOff { 47 } else { 48 };
         if short && fault == Fault::RefusalsExchanged {
-            out.number = 2;
-            return out;
+            return Some(2);
         }
-        if piece.len() > if fault == Fault::PieceOneOff { 249 } else { 250 } {
-            out.number = 1;
-            return out;
+        if long {
+            return Some(1);
         }
         if short {
-            out.number = 2;
-            return out;
+            return Some(2);
         }
-        if let Some(rule) = self.unsound(fault) {
-            out.number = if rule == fault { 0 } else { 3 };
-            return out;
-        }
-        if fault == Fault::TakesNoByte {
-            return out;
-        }
-        if fault == Fault::EmptySetsStamp && piece.is_empty() {
-            self.stamp = stamp;
-        }
-        if fault == Fault::EchoesLater && *self != Second::fresh() {
-            let n = piece.len().min(reply.len());
-            reply[..n].copy_from_slice(&piece[..n]);
-            self.stamp = if n > 0 { stamp } else { self.stamp };
-            out.taken = n;
-            out.written = n;
-            return out;
-        }
+        self.unsound(fault).map(|rule| if rule == fault { 0 } else { 3 })
+    }
 
-        // The set that has begun, once its name is there.
-        let mut begun = match self.len {
+    /// The whole call of a receiver that is wrong before its first byte.
+    #[inline(always)]
+    fn other_call(&mut self, fault: Fault, piece: &[u8], stamp: u32, reply: &mut [u8]) -> Option<Outcome> {
+        match fault {
+            Fault::TakesNoByte => Some(Outcome::default()),
+            Fault::EmptySetsStamp if piece.is_empty() => {
+                self.stamp = stamp;
+                Some(Outcome::default())
+            }
+            Fault::EchoesLater if *self != Second::fresh() => {
+                let n = piece.len().min(reply.len());
+                reply[..n].copy_from_slice(&piece[..n]);
+                self.stamp = if n > 0 { stamp } else { self.stamp };
+                Some(Outcome { taken: n, written: n, ..Outcome::default() })
+            }
+            _ => None,
+        }
+    }
+
+    /// The set that has begun, once its name is there, else 0.
+    #[inline(always)]
+    fn begun(&self) -> usize {
+        match self.len {
             0..=3 => 0,
             _ => match self.name() {
                 Meaning::Set(block) => block,
                 _ => 0,
             },
-        };
+        }
+    }
+
+    /// What this byte makes of the unfinished unit; a set that has begun is noted.
+    #[inline(always)]
+    fn end(&self, fault: Fault, byte: u8, begun: &mut usize) -> End {
+        match self.len {
+            0 if byte == 0 => End::Zero,
+            0..=2 => End::NotYet,
+            3 => match meaning([self.unit[0], self.unit[1], self.unit[2], byte]) {
+                Meaning::Set(block) => {
+                    *begun = block;
+                    End::NotYet
+                }
+                Meaning::Get(block) => End::Get(block),
+                Meaning::Order(order) => End::Order(order),
+                Meaning::Unknown => End::Unknown,
+            },
+            _ if byte == 0 && fault == Fault::ZeroResynchronises => End::Zero,
+            at if at + 1 == TOTAL[*begun - 1] => End::Set(*begun),
+            _ => End::NotYet,
+        }
+    }
+
+    #[inline(always)]
+    fn run(&mut self, fault: Fault, piece: &[u8], stamp: u32, reply: &mut [u8]) -> Outcome {
+        if let Some(number) = self.refusal(fault, piece.len(), reply.len()) {
+            return Outcome { number, ..Outcome::default() };
+        }
+        if let Some(out) = self.other_call(fault, piece, stamp, reply) {
+            return out;
+        }
+        let mut out = Outcome::default();
+        let mut begun = self.begun();
         for &byte in piece {
-            let wait = match fault {
-                Fault::PlainSubtraction => stamp.saturating_sub(self.stamp),
-                _ => stamp.wrapping_sub(self.stamp),
-            };
-            if wait > if fault == Fault::FourHundredTooLong { 399 } else { 400 } {
+            if self.too_late(stamp, fault == Fault::PlainSubtraction, fault == Fault::FourHundredTooLong) {
                 self.len = 0;
             }
-            let at = self.len;
-            let end = match at {
-                0 if byte == 0 => End::Zero,
-                0..=2 => End::NotYet,
-                3 => match meaning([self.unit[0], self.unit[1], self.unit[2], byte]) {
-                    Meaning::Set(block) => {
-                        begun = block;
-                        End::NotYet
-                    }
-                    Meaning::Get(block) => End::Get(block),
-                    Meaning::Order(order) => End::Order(order),
-                    Meaning::Unknown => End::Unknown,
-                },
-                _ if byte == 0 && fault == Fault::ZeroResynchronises => End::Zero,
-                _ if at + 1 == TOTAL[begun - 1] => End::Set(begun),
-                _ => End::NotYet,
-            };
-            let due = match end {
-                End::NotYet => 0,
-                End::Zero => 1,
-                End::Get(block) => TOTAL[block - 1],
-                End::Unknown | End::Order(_) | End::Set(_) => 4,
-            };
+            let end = self.end(fault, byte, &mut begun);
+            let due = end.due();
             let left = reply.len() - out.written;
             if due > left || (fault == Fault::FitOneOff && due == left && out.taken > 0) {
                 break;
             }
-
             out.taken += 1;
-            if fault != Fault::StampNotSet {
-                self.stamp = stamp;
-            }
-            self.unit[at] = byte;
-            self.len = at + 1;
+            self.take(fault, byte, stamp, begun);
             if let End::NotYet = end {
-                if fault == Fault::StoredAsTheyCome && at >= 4 && at < TOTAL[begun - 1] - 2 - RESERVED[begun - 1] {
-                    self.data[begun - 1][at - 4] = byte;
-                }
                 continue;
             }
-
-            self.len = 0;
-            out.units += 1;
-            let to = &mut reply[out.written..out.written + due];
-            out.written += due;
-            match end {
-                End::NotYet => {}
-                End::Zero => to[0] = 0,
-                End::Unknown => {
-                    to.copy_from_slice(b"errc");
-                    self.raise(fault, 1);
-                    if fault == Fault::ErrcSlidesByOne {
-                        self.unit.copy_within(1..4, 0);
-                        self.len = 3;
-                    }
-                }
-                End::Order(order) => {
-                    to.copy_from_slice(&self.unit[..4]);
-                    out.order = order;
-                }
-                End::Get(block) => {
-                    let data = &self.data[block - 1][..due - 6];
-                    to[..4].copy_from_slice(&self.unit[..4]);
-                    to[4..due - 2].copy_from_slice(data);
-                    let sum = crc(data);
-                    to[due - 2..].copy_from_slice(&match fault {
-                        Fault::CrcSentHighByteFirst => sum.to_be_bytes(),
-                        _ => sum.to_le_bytes(),
-                    });
-                }
-                End::Set(block) => to.copy_from_slice(&self.judge(fault, block)),
-            }
-            if fault == Fault::ConstantReply {
-                to.fill(b'e');
-            }
+            self.answer(fault, end, &mut reply[out.written..out.written + due], &mut out);
             if out.order != 0 && fault != Fault::GoesOnAfterOrder {
                 break;
             }
@@ -477,6 +296,63 @@ impl Second {
             out.taken = piece.len();
         }
         out
+    }
+
+    /// Puts a byte behind the unfinished ones.
+    #[inline(always)]
+    fn take(&mut self, fault: Fault, byte: u8, stamp: u32, begun: usize) {
+        let at = self.len;
+        if fault != Fault::StampNotSet {
+            self.stamp = stamp;
+        }
+        self.unit[at] = byte;
+        self.len = at + 1;
+        if fault == Fault::StoredAsTheyCome && at >= 4 && at < 4 + row(begun).used() {
+            self.data[begun - 1][at - 4] = byte;
+        }
+    }
+
+    /// A whole unit: its reply, and the order that it gives.
+    #[inline(always)]
+    fn answer(&mut self, fault: Fault, end: End, to: &mut [u8], out: &mut Outcome) {
+        self.len = 0;
+        out.units += 1;
+        out.written += to.len();
+        match end {
+            End::NotYet => {}
+            End::Zero => to[0] = 0,
+            End::Unknown => {
+                to.copy_from_slice(b"errc");
+                self.raise(fault, 1);
+                if fault == Fault::ErrcSlidesByOne {
+                    self.unit.copy_within(1..4, 0);
+                    self.len = 3;
+                }
+            }
+            End::Order(order) => {
+                to.copy_from_slice(&self.unit[..4]);
+                out.order = order;
+            }
+            End::Get(block) => self.send(fault, block, to),
+            End::Set(block) => to.copy_from_slice(&self.judge(fault, block)),
+        }
+        if fault == Fault::ConstantReply {
+            to.fill(b'e');
+        }
+    }
+
+    /// A get's reply.
+    #[inline(always)]
+    fn send(&self, fault: Fault, block: usize, to: &mut [u8]) {
+        let end = to.len() - 2;
+        let data = &self.data[block - 1][..end - 4];
+        let sum = crc(data);
+        to[..4].copy_from_slice(&self.unit[..4]);
+        to[4..end].copy_from_slice(data);
+        to[end..].copy_from_slice(&match fault {
+            Fault::CrcSentHighByteFirst => sum.to_be_bytes(),
+            _ => sum.to_le_bytes(),
+        });
     }
 
     /// A whole set: its CRC, then its fields; the reply.
@@ -495,8 +371,8 @@ impl Second {
         }
         let mut data = [0; DATA];
         data.copy_from_slice(&self.unit[4..4 + DATA]);
-        let bad = bad_field(block, &data, fault);
-        let kept = total - 6 - if fault == Fault::ReservedKept { 0 } else { RESERVED[block - 1] };
+        let bad = fault.bad_field(block, &data);
+        let kept = total - 6 - if fault == Fault::ReservedKept { 0 } else { row(block).reserved };
         if bad != 0 {
             self.raise(fault, 4);
             self.refused = (block, bad);
@@ -526,7 +402,7 @@ mod tests {
     fn offer(second: &mut Second, mut piece: &[u8], stamp: u32) -> (Vec<u8>, Vec<u8>) {
         let (mut replies, mut orders) = (vec![], vec![]);
         while !piece.is_empty() {
-            let mut reply = [0xAA; 48];
+            let mut reply = [0xAA; FRAME];
             let out = second.call(piece, stamp, &mut reply);
             assert_eq!(out.number, 0);
             assert!(out.taken > 0);
@@ -570,8 +446,8 @@ mod tests {
                 let data = &mut second.data[block - 1];
                 data[at + bit / 8] |= 1 << (bit % 8);
                 let (bad, number) = if known >> bit & 1 == 1 { (0, 0) } else { (field, 3) };
-                assert_eq!(bad_field(block, data, Fault::None), bad);
-                assert_eq!(second.call(b"", 0, &mut [0; 48]).number, number);
+                assert_eq!(table::bad_field(block, data), bad);
+                assert_eq!(second.call(b"", 0, &mut [0; FRAME]).number, number);
             }
         }
     }
@@ -581,7 +457,7 @@ mod tests {
         let mut eng = Second::fresh().data[1];
         for (at, field) in [(13, 7), (10, 5), (7, 3)] {
             eng[at] = 0xFF;
-            assert_eq!(bad_field(2, &eng, Fault::None), field);
+            assert_eq!(table::bad_field(2, &eng), field);
         }
     }
 
@@ -610,7 +486,7 @@ mod tests {
             assert_eq!(offer(&mut second, b"op", 4).1, orders);
             assert_eq!(second.len, len);
         }
-        let unsound = Second { len: 49, ..Second::fresh() };
+        let unsound = Second { len: FRAME + 1, ..Second::fresh() };
         let mut second = unsound.clone();
         assert_eq!((second.report_clock(401), second), (3, unsound));
     }
@@ -618,12 +494,13 @@ mod tests {
     #[test]
     fn refusals() {
         let mut second = Second::fresh();
-        assert_eq!(second.call(&[0; 251], 0, &mut [0; 47]).number, 1);
-        assert_eq!(second.call(&[0; 251], 0, &mut [0; 48]).number, 1);
-        assert_eq!(second.call(&[0; 250], 0, &mut [0; 47]).number, 2);
-        assert_eq!(second.call(b"gpidgpid", 0, &mut [0; 48]).taken, 7);
+        let (room, short) = (&mut [0; FRAME], &mut [0; FRAME - 1]);
+        assert_eq!(second.call(&[0; PIECE + 1], 0, short).number, 1);
+        assert_eq!(second.call(&[0; PIECE + 1], 0, room).number, 1);
+        assert_eq!(second.call(&[0; PIECE], 0, short).number, 2);
+        assert_eq!(second.call(b"gpidgpid", 0, room).taken, 7);
         let mut unsound = Second { len: 1, ..Second::fresh() };
-        assert_eq!(unsound.call(b"", 0, &mut [0; 48]).number, 3);
-        assert_eq!(unsound.call(b"", 0, &mut [0; 47]).number, 2);
+        assert_eq!(unsound.call(b"", 0, room).number, 3);
+        assert_eq!(unsound.call(b"", 0, short).number, 2);
     }
 }

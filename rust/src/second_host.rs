@@ -1,9 +1,9 @@
 //! A second host, written from sheets 01 and 02, with no code or table of the library. A block is its number and its data section as bytes,
-//! fields are tested one after the other along 01's table, and a refusal is 02's number.
+//! and a refusal is 02's number.
 //! It can be broken on purpose (`Fault`), to see that a comparison notices.
 
-use crate::frames::{bounds, row, Field, ORDERS, ROWS};
-use crate::second::Fault;
+use crate::fault::Fault;
+use crate::table::{block_named, order_named, row, ORDERS};
 
 /// Reserved bytes in the data section of a set count for nothing.
 #[derive(Clone, PartialEq, Debug)]
@@ -25,33 +25,14 @@ pub enum Answer {
     Errv,
 }
 
-/// A field's value: low byte first, below zero if the field can be.
-fn value(bytes: &[u8], low: i64) -> i64 {
-    let plain = bytes.iter().rev().fold(0, |n, &byte| n << 8 | byte as i64);
-    let (_, most) = bounds(bytes.len(), low);
-    if plain > most {
-        plain - (1 << (8 * bytes.len()))
-    } else {
-        plain
-    }
-}
-
 fn in_range(fault: Fault, number: usize, data: &[u8]) -> bool {
-    let mut rest = data;
-    row(number).fields.iter().enumerate().all(|(i, &field)| {
-        let (bytes, more) = rest.split_at(field.width());
-        rest = more;
-        match field {
-            Field::Whole(_, low, high) => {
-                // At uHomeDelta
-                let off = fault == Fault::HostRangeOneOff && (number, i) == (5, 5);
-                (low..=high + off as i64).contains(&value(bytes, low))
-            }
-            Field::Flags(_, known) => fault == Fault::HostUnknownBitPasses || value(bytes, 0) & !known == 0,
-            // The exponent's bits, seven in the last byte and one in the byte before it, are not all ones.
-            Field::Float => bytes[3] & 0x7F != 0x7F || bytes[2] & 0x80 == 0,
-        }
-    })
+    let bad = row(number).bad_fields(data);
+    match fault {
+        // uHomeDelta
+        Fault::HostRangeOneOff if number == 5 && data[14..16] == [0, 1] => bad == [6],
+        Fault::HostUnknownBitPasses => bad.iter().all(|&field| row(number).fields[field - 1].has_flags()),
+        _ => bad.is_empty(),
+    }
 }
 
 fn frame(fault: Fault, request: &Request) -> Vec<u8> {
@@ -130,8 +111,8 @@ pub fn read(fault: Fault, bytes: &[u8]) -> Result<(Answer, usize), u8> {
         return Ok((Answer::Zero, 1));
     }
     let Some(name) = bytes.first_chunk::<4>() else { return Err(5) };
-    let named = ROWS.iter().position(|row| *row.name == name[1..]).map(|i| i + 1);
-    let ordered = ORDERS.iter().position(|order| *order == name).map(|i| i + 1);
+    let named = block_named(&name[1..]);
+    let ordered = order_named(name);
     let answer = match (name, named, ordered) {
         (b"errc", ..) => Answer::Errc,
         (b"errd", ..) => Answer::Errd,

@@ -6,11 +6,11 @@ use native.Mathlib.Omega.{arith}
 use lib.ListN.{length, take, length-append}
 use lib.Seq.{length-take-le}
 use Rattle.rule.specs.Calls.{Called}
-use Rattle.unit.specs.Unit.{Memory}
-use Rattle.unit.specs.declared.names.Order.{Order}
+use Rattle.names.specs.declared.Order.{Order}
+use Rattle.unit.specs.declared.Memory.{Memory}
+use Rattle.state.specs.declared.Board.{Board}
+use Rattle.state.specs.declared.Call.{Call}
 use Rattle.receiver.specs.Receive.{Received}
-use Rattle.receiver.specs.declared.Board.{Board}
-use Rattle.receiver.specs.declared.Call.{Call}
 
 module _ {c : Called Order Memory} {b : Board} {before after : List ℕ} {r : Call} (got : Received c b before r after) where
   pub written-fits : r .written ≤ length after

@@ -11,24 +11,29 @@ use Rattle.rule.specs.Run.{Item, at}
 use Rattle.rule.specs.Rule.{Said, State, wholeRun}
 use Rattle.rule.specs.Step.{steps}
 use Rattle.rule.specs.Calls.{Called, call}
+use Rattle.rule.specs.Facts.{TakesSteps}
 use Rattle.rule.proofs.Steps.{steps-append, steps-is-whole}
 use Rattle.rule.proofs.Calls.{at-append, call-steps}
-use Rattle.rule.proofs.Progress.{steps-begun, steps-keep}
 use Rattle.rule.proofs.Numbered.{call-accepted}
-use Rattle.unit.specs.Unit.{Memory, Event, freshMemory}
+use Rattle.sheet.specs.Lengths.{longestPiece}
+use Rattle.names.specs.declared.Order.{Order}
+use Rattle.names.proofs.Need.{need-law}
+use Rattle.unit.specs.Unit.{Event, freshMemory}
 use Rattle.unit.specs.Protocol.{protocol, soundState, freshState}
-use Rattle.unit.specs.declared.names.Order.{Order}
-use Rattle.unit.proofs.Need.{need-law}
-use Rattle.unit.proofs.Sound.{SoundMemory, act-sound, sound-begun, sound-memory, sound-from, fresh-sound}
-use Rattle.receiver.specs.State.{stateOf, boardOf}
+use Rattle.unit.specs.declared.Memory.{Memory}
+use Rattle.unit.proofs.Sound.{steps-sound, fresh-sound}
+use Rattle.state.specs.State.{stateOf, boardOf}
+use Rattle.state.specs.Sound.{soundBoard, refusalOf}
+use Rattle.state.specs.declared.Board.{Board}
+use Rattle.state.specs.declared.Call.{Call}
+use Rattle.state.proofs.Boards.{state-board, refusal-none}
 use Rattle.receiver.specs.Receive.{answer}
-use Rattle.receiver.specs.declared.Board.{Board}
-use Rattle.receiver.specs.declared.Call.{Call}
-use Rattle.receiver.proofs.Calls.{state-board, call-board, accept-some}
+use Rattle.receiver.proofs.Calls.{call-board, accept-some}
+use Rattle.bench.specs.Trace.{replyRoom}
 
 -- the board b is sound, with zeros behind its unfinished bytes, and the run r leads from it to `end`
 pub record Leads (end : State Memory) (b : Board) (r : List (Item Event)) : Type 0 where
-  pub sound : soundState (stateOf b) ≡ true
+  pub sound : soundBoard b ≡ true
   pub form : b ≡ boardOf (stateOf b)
   pub ends : steps protocol (stateOf b) r .next ≡ end
 
@@ -46,11 +51,6 @@ starts {b} r e =
 pub arrived : {end : State Memory} {b : Board} {r : List (Item Event)} → Leads end b r → r ≡ [] → b ≡ boardOf end
 unfolding steps
 arrived {end} {b} l e = l .form ∙ ap (λ (q : List (Item Event)). boardOf (steps protocol (stateOf b) q .next)) (sym e) ∙ ap boardOf (l .ends)
-
--- bytes that share a stamp keep a sound state sound
-steps-sound : (s : State Memory) (t : ℕ) (u : List ℕ) → soundState s ≡ true → soundState (steps protocol s (at t u) .next) ≡ true
-steps-sound s t u h =
-    sound-from _ (steps-begun protocol need-law t u s (sound-begun s h)) (steps-keep protocol SoundMemory act-sound (at t u) s (sound-memory s h))
 
 -- bytes from the front that share a stamp are passed by the byte steps
 pub passed : {end : State Memory} {b next : Board} (t : ℕ) (u : List ℕ) (r : List (Item Event)) → Leads end b (at t u ++ r)
@@ -71,13 +71,17 @@ tail k p = take-all (length p - k) (drop k p) (omega (arith, length-drop k p))
 -- a call, k bytes of the piece p being taken, answers r: what that does to the rest of p
 pub record Turn (end : State Memory) (t : ℕ) (p : List ℕ) (k : ℕ) (r : Call) : Type 0 where
   pub fits : k + r .taken ≤ length p
-  pub some : length p ≤ 250 → k < length p → 0 < r .taken
+  pub some : length p ≤ longestPiece → k < length p → 0 < r .taken
   pub rest : Leads end (r .board) (at t (drop (k + r .taken) p))
 
 module _ {end : State Memory} {b : Board} {r : Call} (t : ℕ) (p : List ℕ) (k : ℕ) (h : k ≤ length p) (l : Leads end b (at t (drop k p)))
-    (is : r ≡ answer b (call protocol (stateOf b) t 250 (midOf k (length p - k) p))) where
+    (is : r ≡ answer b (call protocol (refusalOf b) (stateOf b) t replyRoom (midOf k (length p - k) p))) where
   abbrev c : Called Order Memory
-  c = call protocol (stateOf b) t 250 (drop k p)
+  c = call protocol (refusalOf b) (stateOf b) t replyRoom (drop k p)
+
+  -- a call is the byte steps over what it took
+  taken-steps : TakesSteps protocol (stateOf b) t (drop k p) c
+  taken-steps = call-steps protocol (refusalOf b) (drop k p) (stateOf b) t replyRoom
 
   called : r ≡ answer b c
   called = rw (tail k p) at is
@@ -86,13 +90,12 @@ module _ {end : State Memory} {b : Board} {r : Call} (t : ℕ) (p : List ℕ) (k
   taken-is = ap (λ (y : Call). y .taken) called
 
   -- "With a piece that is not empty, an accepted call takes at least one byte."
-  takes : length p ≤ 250 → k < length p → 0 < r .taken
+  takes : length p ≤ longestPiece → k < length p → 0 < r .taken
   takes few some =
       let n : length (drop k p) ≡ length p - k = length-drop k p in
-      rw (taken-is, call-accepted protocol (stateOf b) t 250 (drop k p) (omega arith) (omega arith) (l .sound))
-      (accept-some (stateOf b) t 250 (drop k p) (omega arith) (omega arith))
+      rw (taken-is, call-accepted protocol (refusalOf b) (stateOf b) t replyRoom (drop k p) (omega arith) (omega arith) (refusal-none b (l .sound)))
+      (accept-some (stateOf b) t replyRoom (drop k p) (omega arith) (omega arith))
 
-  -- a call is the byte steps over what it took
   rest-leads : Leads end (r .board) (at t (drop (k + r .taken) p))
   rest-leads =
       let front = take (r .taken) (drop k p) in
@@ -100,15 +103,15 @@ module _ {end : State Memory} {b : Board} {r : Call} (t : ℕ) (p : List ℕ) (k
       let joined : front ++ back ≡ drop k p = ap (λ (u : List ℕ). front ++ u) (sym (drop-drop (r .taken) k p)) ∙ take-append-drop (r .taken) (drop k p) in
       let split : at {E = Event} t (drop k p) ≡ at t front ++ at t back = ap (at t) (sym joined) ∙ at-append t front back in
       let left : r .board ≡ boardOf (c .said .next) =
-      ap (λ (y : Call). y .board) called ∙ ap (λ (y : Board). answer y c .board) (l .form) ∙ call-board (stateOf b) t 250 (drop k p) in
+      ap (λ (y : Call). y .board) called ∙ ap (λ (y : Board). answer y c .board) (l .form) ∙ call-board (refusalOf b) (stateOf b) t replyRoom (drop k p) in
       let same : c .said ≡ steps protocol (stateOf b) (at t front) =
-      call-steps protocol (drop k p) (stateOf b) t 250 .same ∙ ap (λ (n : ℕ). steps protocol (stateOf b) (at t (take n (drop k p)))) (sym taken-is) in
+      taken-steps .same ∙ ap (λ (n : ℕ). steps protocol (stateOf b) (at t (take n (drop k p)))) (sym taken-is) in
       passed t front (at t back) (rw split at l) (left ∙ ap (λ (a : Said Order (State Memory)). boardOf (a .next)) same)
 
   pub turn : Turn end t p k r
   turn =
       record {
-        fits = omega (arith, taken-is, call-steps protocol (drop k p) (stateOf b) t 250 .most, length-drop k p);
+        fits = omega (arith, taken-is, taken-steps .most, length-drop k p);
         some = takes;
         rest = rest-leads;
       }

@@ -11,7 +11,9 @@ use denote.Enum.Declared.{tagOf}
 use Rattle.rule.specs.Run.{Item, at}
 use Rattle.rule.specs.Rule.{State}
 use Rattle.rule.specs.Step.{steps}
-use Rattle.unit.specs.Unit.{Memory, Event}
+use Rattle.sheet.specs.Lengths.{longestPiece}
+use Rattle.unit.specs.Unit.{Event}
+use Rattle.unit.specs.declared.Memory.{Memory}
 use Rattle.unit.specs.Protocol.{protocol}
 use Rattle.trace.specs.Record.{reading}
 use Rattle.trace.specs.declared.Head.{Head}
@@ -19,8 +21,8 @@ use Rattle.trace.specs.declared.Reading.{Reading}
 use Rattle.trace.specs.declared.Reading.the-variants.{Record, More, Bad}
 use Rattle.trace.proofs.Records.{record-fits}
 use Rattle.trace.proofs.Reading.{the-type}
-use Rattle.receiver.specs.State.{stateOf, boardOf}
-use Rattle.receiver.specs.declared.Board.{Board}
+use Rattle.state.specs.State.{stateOf, boardOf}
+use Rattle.state.specs.declared.Board.{Board}
 use Rattle.bench.specs.Trace.{offered, records, runIn}
 use Rattle.bench.proofs.Rest.{Leads, arrived, passed, tail}
 
@@ -82,7 +84,7 @@ piece s k h = midOf (k + 7) (k + 7 + h .count - (k + 7)) s
 -- that record is whole and can be offered to the board b, and the rest of the run is that behind it
 pub record Passes (end : State Memory) (b : Board) (s : List ℕ) (k : ℕ) (h : Head) : Type 0 where
   pub fits : k + 7 + h .count ≤ length s
-  pub few : length (piece s k h) ≤ 250
+  pub few : length (piece s k h) ≤ longestPiece
   pub rest : {next : Board} → next ≡ boardOf (steps protocol (stateOf b) (at (h .stamp) (piece s k h)) .next)
       → Leads end next (runIn (drop (k + 7 + h .count) s))
 

@@ -8,6 +8,10 @@ use Rattle.trace.specs.Record.{reading}
 use Rattle.trace.specs.declared.Reading.{Reading}
 use Rattle.trace.specs.declared.Reading.the-variants.{Record, More, Bad}
 
+-- "Reply room is 250."
+abbrev pub replyRoom : ℕ
+replyRoom = 250
+
 -- what the bytes s offer, whose front reads as the third argument: "stamp (4 bytes), count (1 byte, 0 to 250), that many bytes", and then `rest` of
 -- what stands behind them. "A wrong mark, a count over 250 or a cut record": "none of that record's bytes is offered, and reading stops."
 abbrev pub offered : (List ℕ → List (Item Event)) → List ℕ → Reading → List (Item Event)

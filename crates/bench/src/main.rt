@@ -1,6 +1,6 @@
 // The bench: runs a trace from standard input through the receiver, and prints a line a call (sheet 01, "The bench program").
-use receiver::Board;
-use receiver::Call;
+use state::Board;
+use state::Call;
 use trace::Reading;
 ghost use mathlib.Core.Bool.{true};
 ghost use mathlib.Core.Path.{_≡_};
@@ -10,11 +10,16 @@ ghost use Rattle.rule.specs.Run.{at as stamped};
 ghost use Rattle.rule.specs.Rule.{wholeRun};
 ghost use Rattle.rule.specs.Step.{steps};
 ghost use Rattle.rule.specs.Calls.{call as rules};
+ghost use Rattle.sheet.specs.Lengths.{longestPiece};
 ghost use Rattle.unit.specs.Unit.{freshMemory};
-ghost use Rattle.unit.specs.Protocol.{protocol, soundState};
-ghost use Rattle.receiver.specs.State.{stateOf, boardOf};
+ghost use Rattle.unit.specs.Protocol.{protocol};
+ghost use Rattle.state.specs.State.{stateOf, boardOf};
+ghost use Rattle.state.specs.Sound.{soundBoard, refusalOf};
 ghost use Rattle.receiver.specs.Receive.{answer};
-ghost use Rattle.bench.specs.Trace.{runIn};
+ghost use Rattle.bench.specs.Trace.{replyRoom, runIn};
+
+// "Reply room is 250."
+const ROOM: usize = 250;
 
 fn say(text: &[u8]) {
     io::write_all(1, text);
@@ -29,18 +34,18 @@ fn say_bad(place: usize) {
 // The last line.
 fn say_end(board: Board) {
     let mut line = [0u8; 64];
-    let n = trace::write_end(&mut line, board.notes.flags, board.count);
+    let n = trace::write_end(&mut line, board.memory.notes.flags, board.count);
     say(&line[..n]);
 }
 
-// One call, with a reply room of 250, and its line.
+// One call and its line.
 fn call_once(board: Board, stamp: u32, piece: &[u8]) -> Call
-    ensures { λ r. ⌜ r ≡ answer board (rules protocol (stateOf board) stamp 250 (now (piece .entry))) ⌝ }
+    ensures { λ r. ⌜ r ≡ answer board (rules protocol (refusalOf board) (stateOf board) stamp replyRoom (now (piece .entry))) ⌝ }
 {
-    let mut reply = [0u8; 250];
+    let mut reply = [0u8; ROOM];
     let call = receiver::receive(board, piece, stamp, &mut reply);
     let order = call.order;
-    let number = unit::names::order_number(order);
+    let number = names::order_number(order);
     let written = call.written;
     let mut line = [0u8; 600];
     let n = trace::write_line(&mut line, stamp, call.taken, number, &reply[..written]);
@@ -50,7 +55,7 @@ fn call_once(board: Board, stamp: u32, piece: &[u8]) -> Call
 
 // Calls until all of a record's bytes are taken, at least once: a call on some bytes takes one at least, since the board is sound.
 fn offer(board: Board, stamp: u32, piece: &[u8]) -> Board
-    requires { ⌜ (soundState (stateOf board) ≡ true) × (board ≡ boardOf (stateOf board)) × (length (now piece) ≤ 250) ⌝ }
+    requires { ⌜ (soundBoard board ≡ true) × (board ≡ boardOf (stateOf board)) × (length (now piece) ≤ longestPiece) ⌝ }
     ensures { λ r. ⌜ r ≡ boardOf (steps protocol (stateOf board) (stamped stamp (now (piece .entry))) .next) ⌝ }
 {
     let mut cur = board;
@@ -69,7 +74,7 @@ fn offer(board: Board, stamp: u32, piece: &[u8]) -> Board
 fn run(bytes: &[u8]) -> Board
     ensures { λ r. ⌜ r ≡ boardOf (wholeRun protocol freshMemory 0 (runIn (now (bytes .entry))) .next) ⌝ }
 {
-    let mut board = receiver::fresh();
+    let mut board = state::fresh();
     let mut at = 0;
     while at < bytes.len() {
         let reading = trace::read_record(&bytes[at..]);

@@ -4,12 +4,12 @@ use mathlib.Core.Path.{_≡_}
 use Prim.Native.Nat.{ℕ}
 use lib.ListN.{length, drop}
 use Rattle.rule.specs.Calls.{Called}
-use Rattle.unit.specs.Names.{orderNumber}
-use Rattle.unit.specs.Unit.{Memory}
-use Rattle.unit.specs.declared.names.Order.{Order}
+use Rattle.names.specs.Names.{orderNumber}
+use Rattle.names.specs.declared.Order.{Order}
+use Rattle.unit.specs.declared.Memory.{Memory}
+use Rattle.state.specs.declared.Board.{Board}
+use Rattle.state.specs.declared.Call.{Call}
 use Rattle.receiver.specs.Receive.{answer}
-use Rattle.receiver.specs.declared.Board.{Board}
-use Rattle.receiver.specs.declared.Call.{Call}
 use Rattle.board.specs.declared.Answer.{Answer}
 
 abbrev pub flat : Call → Answer

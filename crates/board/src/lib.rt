@@ -1,22 +1,23 @@
 // The receiver as C and Rust link it: the same three functions under plain names, the order as 01's number.
-use receiver::Board;
-use receiver::Report;
+use clock::Report;
+use state::Board;
 ghost use mathlib.Core.Path.{_≡_};
 ghost use lib.ListN.{length};
 ghost use Rattle.rule.specs.Calls.{call};
 ghost use Rattle.unit.specs.Protocol.{protocol, freshState};
-ghost use Rattle.receiver.specs.State.{stateOf, boardOf};
-ghost use Rattle.receiver.specs.Report.{reported};
+ghost use Rattle.state.specs.State.{stateOf, boardOf};
+ghost use Rattle.state.specs.Sound.{refusalOf};
+ghost use Rattle.clock.specs.Report.{reported};
 ghost use Rattle.board.specs.Answer.{Answered};
 
 // What a call answers, flat.
 #[repr(C)]
 pub struct Answer {
-    pub number: u8,
-    pub order: u8,
+    pub board: Board,
     pub taken: usize,
     pub written: usize,
-    pub board: Board,
+    pub number: u8,
+    pub order: u8,
 }
 
 // A board that has taken nothing yet.
@@ -24,7 +25,7 @@ pub struct Answer {
 pub extern "C" fn rivertosku_fresh() -> Board
     ensures { λ r. ⌜ r ≡ boardOf freshState ⌝ }
 {
-    receiver::fresh()
+    state::fresh()
 }
 
 // One call: a piece of bytes that share a stamp, and room for the replies.
@@ -35,14 +36,14 @@ pub extern "C" fn rivertosku_receive(
     stamp: u32,
     reply: &mut [u8],
 ) -> Answer
-    ensures { λ r. ⌜ Answered (call protocol (stateOf board) stamp (length (now (reply .entry))) (now (piece .entry))) board (now (reply .entry)) r (now (reply .exit)) ⌝ }
+    ensures { λ r. ⌜ Answered (call protocol (refusalOf board) (stateOf board) stamp (length (now (reply .entry))) (now (piece .entry))) board (now (reply .entry)) r (now (reply .exit)) ⌝ }
 {
     let call = receiver::receive(board, piece, stamp, reply);
     let order = call.order;
     let next = call.board;
     Answer {
         number: call.number,
-        order: unit::names::order_number(order),
+        order: names::order_number(order),
         taken: call.taken,
         written: call.written,
         board: next,
@@ -54,5 +55,5 @@ pub extern "C" fn rivertosku_receive(
 pub extern "C" fn rivertosku_report_clock(board: Board, now: u32) -> Report
     ensures { λ r. ⌜ r ≡ reported board now ⌝ }
 {
-    receiver::report_clock(board, now)
+    clock::report_time(board, now)
 }

@@ -2,7 +2,7 @@
 use sheet::Head;
 ghost use mathlib.Core.Path.{_≡_};
 ghost use lib.Seq.{sets};
-ghost use Rattle.sheet.specs.Sheet.{brkRow};
+ghost use Rattle.sheet.specs.Sheet.{brkRow, sbrk, gbrk};
 ghost use Rattle.sheet.specs.Rows.{headOf, numbersIn, dataOf, firstBad, fresh};
 ghost use Rattle.brk.specs.Brk.{brkOf, brkNumbers};
 
@@ -22,9 +22,9 @@ impl Brk {
 
     pub const GET: u32 = 0x6b726267;
 
-    // The three constants, held against the sheet's row.
+    // The three constants, held against the sheet.
     pub fn head() -> Head
-        ensures { λ r. ⌜ r ≡ headOf brkRow ⌝ }
+        ensures { λ r. ⌜ r ≡ headOf sbrk gbrk ⌝ }
     {
         Head {
             total: Brk::TOTAL,
@@ -69,7 +69,7 @@ impl Brk {
         ensures { λ r. ⌜ r ≡ firstBad brkRow (brkNumbers self) ⌝ }
     {
         let ns = self.numbers();
-        wire::first_false(&[true, true, true, true, wire::has_only_bits(0x03, ns[4])])
+        ranges::first_false(&[true, true, true, true, ranges::has_only_bits(0x03, ns[4])])
     }
 
     pub fn fresh() -> Brk

@@ -2,7 +2,7 @@
 use sheet::Head;
 ghost use mathlib.Core.Path.{_≡_};
 ghost use lib.Seq.{sets};
-ghost use Rattle.sheet.specs.Sheet.{edsRow};
+ghost use Rattle.sheet.specs.Sheet.{edsRow, seds, geds};
 ghost use Rattle.sheet.specs.Rows.{headOf, numbersIn, dataOf, firstBad, fresh};
 ghost use Rattle.eds.specs.Eds.{edsOf, edsNumbers};
 
@@ -23,9 +23,9 @@ impl Eds {
 
     pub const GET: u32 = 0x73646567;
 
-    // The three constants, held against the sheet's row.
+    // The three constants, held against the sheet.
     pub fn head() -> Head
-        ensures { λ r. ⌜ r ≡ headOf edsRow ⌝ }
+        ensures { λ r. ⌜ r ≡ headOf seds geds ⌝ }
     {
         Head {
             total: Eds::TOTAL,
@@ -72,14 +72,14 @@ impl Eds {
         ensures { λ r. ⌜ r ≡ firstBad edsRow (edsNumbers self) ⌝ }
     {
         let ns = self.numbers();
-        wire::first_false(
+        ranges::first_false(
             &[
-                wire::has_only_bits(0x0F, ns[0]),
-                wire::has_only_bits(0x07, ns[1]),
+                ranges::has_only_bits(0x0F, ns[0]),
+                ranges::has_only_bits(0x07, ns[1]),
                 true,
-                wire::is_signed_within(255, ns[3]),
+                ranges::is_signed_within(255, ns[3]),
                 true,
-                wire::is_signed_within(255, ns[5]),
+                ranges::is_signed_within(255, ns[5]),
             ],
         )
     }

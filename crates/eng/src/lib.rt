@@ -2,7 +2,7 @@
 use sheet::Head;
 ghost use mathlib.Core.Path.{_≡_};
 ghost use lib.Seq.{sets};
-ghost use Rattle.sheet.specs.Sheet.{engRow};
+ghost use Rattle.sheet.specs.Sheet.{engRow, seng, geng};
 ghost use Rattle.sheet.specs.Rows.{headOf, numbersIn, dataOf, firstBad, fresh};
 ghost use Rattle.eng.specs.Eng.{engOf, engNumbers};
 
@@ -25,9 +25,9 @@ impl Eng {
 
     pub const GET: u32 = 0x676e6567;
 
-    // The three constants, held against the sheet's row.
+    // The three constants, held against the sheet.
     pub fn head() -> Head
-        ensures { λ r. ⌜ r ≡ headOf engRow ⌝ }
+        ensures { λ r. ⌜ r ≡ headOf seng geng ⌝ }
     {
         Head {
             total: Eng::TOTAL,
@@ -78,16 +78,16 @@ impl Eng {
         ensures { λ r. ⌜ r ≡ firstBad engRow (engNumbers self) ⌝ }
     {
         let ns = self.numbers();
-        wire::first_false(
+        ranges::first_false(
             &[
                 true,
-                wire::is_within(15, 8000, ns[1]),
-                wire::is_within(1, 100000, ns[2]),
+                ranges::is_within(15, 8000, ns[1]),
+                ranges::is_within(1, 100000, ns[2]),
                 true,
-                wire::has_only_bits(0xFF, ns[4]),
+                ranges::has_only_bits(0xFF, ns[4]),
                 true,
-                wire::is_within(1, 9, ns[6]),
-                wire::is_within(1, 65535, ns[7]),
+                ranges::is_within(1, 9, ns[6]),
+                ranges::is_within(1, 65535, ns[7]),
             ],
         )
     }

@@ -2,7 +2,7 @@
 use sheet::Head;
 ghost use mathlib.Core.Path.{_≡_};
 ghost use lib.Seq.{sets};
-ghost use Rattle.sheet.specs.Sheet.{homRow};
+ghost use Rattle.sheet.specs.Sheet.{homRow, shom, ghom};
 ghost use Rattle.sheet.specs.Rows.{headOf, numbersIn, dataOf, firstBad, fresh};
 ghost use Rattle.hom.specs.Hom.{homOf, homNumbers};
 
@@ -24,9 +24,9 @@ impl Hom {
 
     pub const GET: u32 = 0x6d6f6867;
 
-    // The three constants, held against the sheet's row.
+    // The three constants, held against the sheet.
     pub fn head() -> Head
-        ensures { λ r. ⌜ r ≡ headOf homRow ⌝ }
+        ensures { λ r. ⌜ r ≡ headOf shom ghom ⌝ }
     {
         Head {
             total: Hom::TOTAL,
@@ -75,15 +75,15 @@ impl Hom {
         ensures { λ r. ⌜ r ≡ firstBad homRow (homNumbers self) ⌝ }
     {
         let ns = self.numbers();
-        wire::first_false(
+        ranges::first_false(
             &[
-                wire::is_within(0, 100000, ns[0]),
+                ranges::is_within(0, 100000, ns[0]),
                 true,
-                wire::is_within(0, 100000, ns[2]),
+                ranges::is_within(0, 100000, ns[2]),
                 true,
                 true,
-                wire::is_signed_within(255, ns[5]),
-                wire::has_only_bits(0x1FF, ns[6]),
+                ranges::is_signed_within(255, ns[5]),
+                ranges::has_only_bits(0x1FF, ns[6]),
             ],
         )
     }

@@ -1,6 +1,3 @@
 pub mod Numbered
-pub mod Blocks
-pub mod Writes
-pub mod Fronts
-pub mod Answers
+pub mod Totals
 pub mod One

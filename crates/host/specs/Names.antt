@@ -1,15 +1,26 @@
 -- The names of 01, for the host: seven blocks and seven orders, each by its number. What joins the board later has no place here (02, P1:
 -- "later commands stay outside").
-use mathlib.Core.Bool.{cond}
 use mathlib.Core.List.{List, [], _∷_, map}
-use Prim.Native.Nat.{ℕ, suc, _+_}
-use lib.Dec.{eqb}
+use Prim.Native.Nat.{ℕ}
+use lib.ListN.{getD}
+use Rattle.keyed.specs.Keyed.{valueIn}
 use Rattle.sheet.specs.Names.{named}
 use Rattle.sheet.specs.Sheet.{Row, movRow, engRow, pwrRow, edsRow, homRow, brkRow, pidRow}
-use Rattle.host.specs.declared.names.Block.{Block}
-use Rattle.host.specs.declared.names.Block.the-variants.{Mov, Eng, Pwr, Eds, Hom, Brk, Pid}
-use Rattle.host.specs.declared.names.Order.{Order}
-use Rattle.host.specs.declared.names.Order.the-variants.{Stop, Sstp, Pwof, Left, Rigt, Home, Loft}
+use Rattle.sheet.specs.Sheet.{Command, smov, seng, spwr, seds, shom, sbrk, spid, gmov, geng, gpwr, geds, ghom, gbrk, gpid}
+use Rattle.host.specs.declared.Block.{Block}
+use Rattle.host.specs.declared.Block.the-variants.{Mov, Eng, Pwr, Eds, Hom, Brk, Pid}
+use Rattle.host.specs.declared.Order.{Order}
+use Rattle.host.specs.declared.Order.the-variants.{Stop, Sstp, Pwof, Left, Rigt, Home, Loft}
+use Rattle.host.specs.declared.FoundBlock.{FoundBlock}
+use Rattle.host.specs.declared.FoundBlock.the-variants as block
+use Rattle.host.specs.declared.FoundOrder.{FoundOrder}
+use Rattle.host.specs.declared.FoundOrder.the-variants as order
+
+-- ---- blocks
+
+-- in the sequence of their numbers, which are 1 to 7
+abbrev pub blockList : List Block
+blockList = Mov ∷ Eng ∷ Pwr ∷ Eds ∷ Hom ∷ Brk ∷ Pid ∷ []
 
 abbrev pub rowOf : Block → Row
 rowOf Mov = movRow
@@ -20,6 +31,36 @@ rowOf Hom = homRow
 rowOf Brk = brkRow
 rowOf Pid = pidRow
 
+abbrev pub setOf : Block → Command
+setOf Mov = smov
+setOf Eng = seng
+setOf Pwr = spwr
+setOf Eds = seds
+setOf Hom = shom
+setOf Brk = sbrk
+setOf Pid = spid
+
+abbrev pub getOf : Block → Command
+getOf Mov = gmov
+getOf Eng = geng
+getOf Pwr = gpwr
+getOf Eds = geds
+getOf Hom = ghom
+getOf Brk = gbrk
+getOf Pid = gpid
+
+abbrev pub blockNumber : Block → ℕ
+blockNumber b = rowOf b .number
+
+-- the block of a number; 0 and any other number are nobody's
+abbrev pub blockAt : ℕ → FoundBlock
+blockAt n = getD (block.Nobody ∷ map block.Known blockList) n block.Nobody
+
+-- ---- orders
+
+abbrev pub orderList : List Order
+orderList = Stop ∷ Sstp ∷ Pwof ∷ Left ∷ Rigt ∷ Home ∷ Loft ∷ []
+
 abbrev pub orderName : Order → ℕ
 orderName Stop = named "stop"
 orderName Sstp = named "sstp"
@@ -29,37 +70,26 @@ orderName Rigt = named "rigt"
 orderName Home = named "home"
 orderName Loft = named "loft"
 
--- in the sequence of their numbers, which are 1 to 7
-abbrev pub blocks : List Block
-blocks = Mov ∷ Eng ∷ Pwr ∷ Eds ∷ Hom ∷ Brk ∷ Pid ∷ []
+-- 01: "Orders: 1 stop, 2 sstp, 3 pwof, 4 left, 5 rigt, 6 home, 7 loft."
+abbrev pub orderNumber : Order → ℕ
+orderNumber Stop = 1
+orderNumber Sstp = 2
+orderNumber Pwof = 3
+orderNumber Left = 4
+orderNumber Rigt = 5
+orderNumber Home = 6
+orderNumber Loft = 7
 
-abbrev pub orders : List Order
-orders = Stop ∷ Sstp ∷ Pwof ∷ Left ∷ Rigt ∷ Home ∷ Loft ∷ []
+abbrev pub orderAt : ℕ → FoundOrder
+orderAt n = getD (order.Nobody ∷ map order.Known orderList) n order.Nobody
 
--- the one of a number; a number of none is the last's
-abbrev pub numbered : {X : Type 0} → X → List X → ℕ → ℕ → X
-numbered last [] k n = last
-numbered last (x ∷ xs) k n = cond (eqb n k) x (numbered last xs (suc k) n)
+-- ---- the number that has a name, or 0
 
-abbrev pub blockAt : ℕ → Block
-blockAt n = numbered Pid (Mov ∷ Eng ∷ Pwr ∷ Eds ∷ Hom ∷ Brk ∷ []) 1 n
+abbrev pub setNamed : ℕ → ℕ
+setNamed n = valueIn n (map (λ b. setOf b .name) blockList) (map blockNumber blockList) 0
 
-abbrev pub orderAt : ℕ → Order
-orderAt n = numbered Loft (Stop ∷ Sstp ∷ Pwof ∷ Left ∷ Rigt ∷ Home ∷ []) 1 n
+abbrev pub getNamed : ℕ → ℕ
+getNamed n = valueIn n (map (λ b. getOf b .name) blockList) (map blockNumber blockList) 0
 
--- the place, counted from k on, of the first of these that is n, or 0
-abbrev pub placeFrom : ℕ → ℕ → List ℕ → ℕ
-placeFrom k n [] = 0
-placeFrom k n (m ∷ ms) = cond (eqb n m) k (placeFrom (k + 1) n ms)
-
-unfoldable pub placeOf : ℕ → List ℕ → ℕ
-placeOf n ms = placeFrom 1 n ms
-
-abbrev pub setNames : List ℕ
-setNames = map (λ b. rowOf b .setName) blocks
-
-abbrev pub getNames : List ℕ
-getNames = map (λ b. rowOf b .getName) blocks
-
-abbrev pub orderNames : List ℕ
-orderNames = map orderName orders
+abbrev pub orderNamed : ℕ → ℕ
+orderNamed n = valueIn n (map orderName orderList) (map orderNumber orderList) 0

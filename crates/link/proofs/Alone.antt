@@ -14,22 +14,25 @@ use Rattle.rule.specs.Loop.{over, stateAt, ready}
 use Rattle.rule.proofs.Choice.{either}
 use Rattle.rule.proofs.Numbered.{call-accepted}
 use Rattle.rule.proofs.Units.{unit-alone}
-use Rattle.unit.specs.Names.{need}
-use Rattle.unit.specs.Unit.{Memory, memory, act}
-use Rattle.unit.specs.Protocol.{protocol, soundState}
-use Rattle.unit.specs.declared.names.Order.{Order}
-use Rattle.unit.proofs.Need.{need-law}
-use Rattle.unit.proofs.Replies.{given, act-order, act-most}
-use Rattle.receiver.specs.State.{stateOf, boardOf}
+use Rattle.names.specs.Names.{need, given}
+use Rattle.names.specs.declared.Order.{Order}
+use Rattle.names.proofs.Need.{need-law}
+use Rattle.unit.specs.Unit.{act}
+use Rattle.unit.specs.Protocol.{protocol}
+use Rattle.unit.specs.declared.Memory.{Memory}
+use Rattle.unit.proofs.Replies.{act-order, act-most}
+use Rattle.state.specs.State.{stateOf, boardOf}
+use Rattle.state.specs.Sound.{soundBoard, refusalOf}
+use Rattle.state.specs.declared.Board.{Board}
+use Rattle.state.specs.declared.Call.{Call}
+use Rattle.state.proofs.Boards.{refusal-none}
 use Rattle.receiver.specs.Receive.{answer}
-use Rattle.receiver.specs.declared.Board.{Board}
-use Rattle.receiver.specs.declared.Call.{Call}
 use Rattle.receiver.proofs.Calls.{accept-readied}
-use Rattle.receiver.proofs.Demands.{Answers, promise, written-is}
+use Rattle.demands.proofs.Calls.{Answers, promise, written-is}
 
 -- a board that can be asked: "a sound board with room enough and nothing unfinished"
 pub record Ready (b : Board) : Type 0 where
-  pub sound : soundState (stateOf b) ≡ true
+  pub sound : soundBoard b ≡ true
   pub idle : b .count ≡ 0
 
 -- a wait drops nothing where nothing is unfinished
@@ -38,33 +41,29 @@ unfolding ready
 idle-ready m t later = either (λ (s : State Memory). s ≡ stateAt m [] later) (late later t) _ _ refl refl
 
 -- a whole unit alone, whatever the last stamp
-alone-accepted : (m : Memory) (t later room : ℕ) (u : List ℕ) → protocol .least ≤ room → 0 < length u → need u ≡ length u
+alone-accepted : (m : Memory) (t later room : ℕ) (u : List ℕ) → protocol .leastRoom ≤ room → 0 < length u → need u ≡ length u
     → let a = act m (whole u) in accept protocol (stateAt m [] t) later room u ≡ over (length u) (a .reply) (a .orders) (stateAt (a .next) [] later)
 alone-accepted m t later room u wide some is =
     accept-readied (stateAt m [] t) later room u wide some ∙ ap (λ (s : State Memory). accept protocol s later room u) (idle-ready m t later)
     ∙ unit-alone protocol need-law m later room u is (omega (arith, act-most m u))
 
--- the board's memory, and what a unit does to it
-abbrev pub memoryOf : Board → Memory
-memoryOf b = memory (b .settings) (b .notes)
-
 -- the unit u "is taken whole and accepted", and the call says what the unit does
 pub record Taken (b : Board) (t : ℕ) (u : List ℕ) (r : Call) (after : List ℕ) : Type 0 where
   pub number : r .number ≡ 0
   pub taken : r .taken ≡ length u
-  pub written : r .written ≡ length (act (memoryOf b) (whole u) .reply)
-  pub reply : take (r .written) after ≡ act (memoryOf b) (whole u) .reply
-  pub order : given (r .order) ≡ act (memoryOf b) (whole u) .orders
-  pub board : r .board ≡ boardOf (stateAt (act (memoryOf b) (whole u) .next) [] t)
+  pub written : r .written ≡ length (act (b .memory) (whole u) .reply)
+  pub reply : take (r .written) after ≡ act (b .memory) (whole u) .reply
+  pub order : given (r .order) ≡ act (b .memory) (whole u) .orders
+  pub board : r .board ≡ boardOf (stateAt (act (b .memory) (whole u) .next) [] t)
 
-pub taken-alone : {b : Board} {t : ℕ} {u before after : List ℕ} {r : Call} → Answers b t u before r after → Ready b → protocol .least ≤ length before
-    → length u ≤ protocol .longest → 0 < length u → need u ≡ length u → Taken b t u r after
+pub taken-alone : {b : Board} {t : ℕ} {u before after : List ℕ} {r : Call} → Answers b t u before r after → Ready b → protocol .leastRoom ≤ length before
+    → length u ≤ protocol .longestPiece → 0 < length u → need u ≡ length u → Taken b t u r after
 taken-alone {b} {t} {u} {before} {after} {r} got can wide fits some is =
-    let m = memoryOf b in
+    let m = b .memory in
     let a = act m (whole u) in
     let at-rest = ap (λ (n : ℕ). stateAt m (take n (b .held)) (b .stamp)) (can .idle) in
-    let call-is : call protocol (stateOf b) t (length before) u ≡ over (length u) (a .reply) (a .orders) (stateAt (a .next) [] t) =
-    call-accepted protocol (stateOf b) t (length before) u fits wide (can .sound)
+    let call-is : call protocol (refusalOf b) (stateOf b) t (length before) u ≡ over (length u) (a .reply) (a .orders) (stateAt (a .next) [] t) =
+    call-accepted protocol (refusalOf b) (stateOf b) t (length before) u fits wide (refusal-none b (can .sound))
     ∙ ap (λ (s : State Memory). accept protocol s t (length before) u) at-rest
     ∙ alone-accepted m (b .stamp) t (length before) u wide some is in
     let answer-is = promise got .result ∙ ap (answer b) call-is in

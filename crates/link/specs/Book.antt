@@ -5,27 +5,37 @@ use Prim.Native.Nat.{ℕ}
 use lib.Dec.{eqb}
 use Rattle.wire.specs.Numbers.{leBytes}
 use Rattle.frame.specs.Frame.{framed}
-use Rattle.unit.specs.declared.names.Order.{Order}
-use Rattle.unit.specs.declared.names.Order.the-variants.{Stop, Sstp, Pwof, Left, Rigt, Home, Loft}
-use Rattle.host.specs.Names.{rowOf, orderName}
-use Rattle.host.specs.Fields.{blockOf, sectionOf}
-use Rattle.host.specs.declared.names.Block.{Block}
-use Rattle.host.specs.declared.names.Order.{Order as Asked}
-use Rattle.host.specs.declared.names.Order.the-variants as asked
-use Rattle.host.specs.declared.fields.Fields.{Fields}
-use Rattle.host.specs.declared.request.Request.{Request}
-use Rattle.host.specs.declared.request.Request.the-variants.{Get, Set, Give}
-use Rattle.host.specs.declared.answer.Answer.{Answer}
-use Rattle.host.specs.declared.answer.Answer.the-variants.{SetEcho, OrderEcho, Data}
+use Rattle.names.specs.declared.Order.{Order}
+use Rattle.names.specs.declared.Order.the-variants.{Stop, Sstp, Pwof, Left, Rigt, Home, Loft}
+use Rattle.settings.specs.declared.Settings.{Settings}
+use Rattle.host.specs.Names.{setOf, getOf, orderName, blockNumber}
+use Rattle.host.specs.declared.Block.{Block}
+use Rattle.host.specs.declared.Order.{Order as Asked}
+use Rattle.host.specs.declared.Order.the-variants as asked
+use Rattle.fields.specs.Fields.{blockOf, sectionOf}
+use Rattle.fields.specs.declared.Fields.{Fields}
+use Rattle.blocks.specs.Blocks.{fieldsAt}
+use Rattle.blocks.specs.declared.Blocks.{Blocks}
+use Rattle.request.specs.declared.Request.{Request}
+use Rattle.request.specs.declared.Request.the-variants.{Get, Set, Give}
+use Rattle.answer.specs.declared.Answer.{Answer}
+use Rattle.answer.specs.declared.Answer.the-variants.{SetEcho, OrderEcho, Data}
 
 -- the fields that each block holds
 abbrev pub Book : Type 0
 Book = Block → Fields
 
+-- what a board holds in its settings, as the host's record of blocks, and as a book
+abbrev pub blocksOf : Settings → Blocks
+blocksOf s = record { mov = s .mov; eng = s .eng; pwr = s .pwr; eds = s .eds; hom = s .hom; brk = s .brk; pid = s .pid }
+
+abbrev pub bookOf : Settings → Book
+bookOf s = fieldsAt (blocksOf s)
+
 -- a set is noted in its block's place; nothing else changes the book
 abbrev pub noted : Book → Request → Book
 noted book (Get b) c = book c
-noted book (Set f) c = cond (eqb (rowOf (blockOf f) .number) (rowOf c .number)) f (book c)
+noted book (Set f) c = cond (eqb (blockNumber (blockOf f)) (blockNumber c)) f (book c)
 noted book (Give o) c = book c
 
 -- "a set is echoed, a get answered with its data, an order echoed"
@@ -61,8 +71,8 @@ ordersOf (q ∷ qs) = ordersBy q ++ ordersOf qs
 
 -- the bytes of the answer: 01's reply
 abbrev pub replyTo : Book → Request → List ℕ
-replyTo book (Get b) = framed (rowOf b .getName) (sectionOf (book b))
-replyTo book (Set f) = leBytes 4 (rowOf (blockOf f) .setName)
+replyTo book (Get b) = framed (getOf b .name) (sectionOf (book b))
+replyTo book (Set f) = leBytes 4 (setOf (blockOf f) .name)
 replyTo book (Give o) = leBytes 4 (orderName o)
 
 -- joined, one behind the other

@@ -2,7 +2,7 @@
 use sheet::Head;
 ghost use mathlib.Core.Path.{_≡_};
 ghost use lib.Seq.{sets};
-ghost use Rattle.sheet.specs.Sheet.{movRow};
+ghost use Rattle.sheet.specs.Sheet.{movRow, smov, gmov};
 ghost use Rattle.sheet.specs.Rows.{headOf, numbersIn, dataOf, firstBad, fresh};
 ghost use Rattle.mov.specs.Mov.{movOf, movNumbers};
 
@@ -23,9 +23,9 @@ impl Mov {
 
     pub const GET: u32 = 0x766f6d67;
 
-    // The three constants, held against the sheet's row.
+    // The three constants, held against the sheet.
     pub fn head() -> Head
-        ensures { λ r. ⌜ r ≡ headOf movRow ⌝ }
+        ensures { λ r. ⌜ r ≡ headOf smov gmov ⌝ }
     {
         Head {
             total: Mov::TOTAL,
@@ -72,13 +72,13 @@ impl Mov {
         ensures { λ r. ⌜ r ≡ firstBad movRow (movNumbers self) ⌝ }
     {
         let ns = self.numbers();
-        wire::first_false(
+        ranges::first_false(
             &[
-                wire::is_within(0, 100000, ns[0]),
+                ranges::is_within(0, 100000, ns[0]),
                 true,
-                wire::is_within(1, 65535, ns[2]),
-                wire::is_within(1, 65535, ns[3]),
-                wire::is_within(0, 100000, ns[4]),
+                ranges::is_within(1, 65535, ns[2]),
+                ranges::is_within(1, 65535, ns[3]),
+                ranges::is_within(0, 100000, ns[4]),
                 true,
             ],
         )

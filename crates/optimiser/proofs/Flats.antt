@@ -1,36 +1,48 @@
 -- Laws of the flat answers, over plain variables. Assumes nothing.
-use mathlib.Core.Path.{_≡_, sym, ap, _∙_}
-use mathlib.Core.Bool.{Bool, true, false}
-use mathlib.Core.List.{List}
-use Prim.Native.Nat.{ℕ}
-use Rattle.host.specs.Request.{badIn, frame, Writes}
-use Rattle.host.specs.Request as request
-use Rattle.host.specs.Answer.{front}
-use Rattle.host.specs.Answer as answer
-use Rattle.host.specs.declared.request.Request.{Request}
-use Rattle.host.specs.declared.request.Written.{Written}
-use Rattle.host.specs.declared.answer.Reading.{Reading}
-use Rattle.optimiser.specs.Flat.{flatWritten, nobody, FlatWrites, flatFront}
+use mathlib.Core.Path.{_≡_, refl, sym, ap, subst, _∙_}
+use mathlib.Core.List.{List, [], _∷_}
+use Prim.Native.Nat.{ℕ, _≤_}
+use Rattle.host.specs.Names.{blockAt, orderAt}
+use Rattle.host.proofs.Numbered.{no-block, no-order}
+use Rattle.blocks.specs.declared.Blocks.{Blocks}
+use Rattle.request.specs.Request.{badIn, frameOf, writtenAs, Writes}
+use Rattle.request.specs.declared.Request.{Request}
+use Rattle.request.specs.declared.Written.{Written}
+use Rattle.answer.specs.Answer.{readAs, firstAnswer}
+use Rattle.answer.specs.declared.Reading.{Reading}
+use Rattle.optimiser.specs.Flat.{getAsked, setAsked, orderAsked, flatWritten, nobody, FlatWrites, flatRead}
 use Rattle.optimiser.specs.declared.FlatWritten.{FlatWritten}
 use Rattle.optimiser.specs.declared.FlatAnswer.{FlatAnswer}
 
 -- ---- writing
 
-pub refuses : (known : Bool) (q : Request) (before : List ℕ) → known ≡ false → FlatWrites known q before nobody before
-refuses known q before is = record { answer = rw is; buffer = rw is }
+pub asks : (q : Request) (before after : List ℕ) (w : Written) (r : FlatWritten)
+    → Writes (badIn q) (frameOf q) before w after → r ≡ flatWritten (writtenAs w) → FlatWrites (q ∷ []) before r after
+asks q before after w r h e = record { answer = e ∙ ap flatWritten (h .answer); buffer = h .buffer }
 
-pub asks : (known : Bool) (q : Request) (before : List ℕ) → known ≡ true → (w : Written) (r : FlatWritten) (after : List ℕ)
-    → Writes (badIn q) (frame q) before w after → r ≡ flatWritten (request.told w) → FlatWrites known q before r after
-asks known q before is w r after h e = record { answer = rw is (e ∙ ap flatWritten (h .answer)); buffer = rw is (h .buffer) }
+pub asks-nothing : (before : List ℕ) (r : FlatWritten) → r ≡ nobody → FlatWrites [] before r before
+asks-nothing before r e = record { answer = e; buffer = refl }
 
--- the same request
-pub asks-as : {known : Bool} {before after : List ℕ} {r : FlatWritten} (q p : Request) → q ≡ p
-    → FlatWrites known q before r after → FlatWrites known p before r after
-asks-as q p e h = rw e at h
+-- the same asked
+pub asks-as : {before after : List ℕ} {r : FlatWritten} (p q : List Request) → p ≡ q → FlatWrites p before r after → FlatWrites q before r after
+asks-as {before} {after} {r} p q e h = subst (λ (x : List Request). FlatWrites x before r after) e h
+
+-- A NUMBER OUTSIDE 1 TO 7 is answered 9, and nothing is written
+module _ {before after : List ℕ} {r : FlatWritten} (n : ℕ) (outside : 1 ≤ n → n ≤ 7 → ⊥) where
+  refused-nine : (asked : List Request) → asked ≡ [] → FlatWrites asked before r after → (r ≡ nobody) × (after ≡ before)
+  refused-nine asked e h = let none = asks-as asked [] e h in (none .answer, none .buffer)
+
+  pub get-outside : FlatWrites (getAsked (blockAt n)) before r after → (r ≡ nobody) × (after ≡ before)
+  get-outside = refused-nine _ (ap getAsked (no-block n outside))
+
+  pub set-outside : (x : Blocks) → FlatWrites (setAsked x (blockAt n)) before r after → (r ≡ nobody) × (after ≡ before)
+  set-outside x = refused-nine _ (ap (setAsked x) (no-block n outside))
+
+  pub order-outside : FlatWrites (orderAsked (orderAt n)) before r after → (r ≡ nobody) × (after ≡ before)
+  order-outside = refused-nine _ (ap orderAsked (no-order n outside))
 
 -- ---- reading
 
--- the front of s, read as t
-pub reads : (s : List ℕ) (x t : Reading) → answer.told x ≡ front s → x ≡ t → (r : FlatAnswer)
-    → r ≡ flatFront (answer.told t) → r ≡ flatFront (front s)
-reads s x t e is r h = h ∙ ap (λ (y : Reading). flatFront (answer.told y)) (sym is) ∙ ap flatFront e
+-- the first answer of s, read as t
+pub reads : (s : List ℕ) (x t : Reading) → readAs x ≡ firstAnswer s → x ≡ t → (r : FlatAnswer) → r ≡ flatRead (readAs t) → r ≡ flatRead (firstAnswer s)
+reads s x t e is r h = h ∙ ap (λ (y : Reading). flatRead (readAs y)) (sym is) ∙ ap flatRead e

@@ -1,80 +1,72 @@
 -- The host's answers, flat, by the numbers of sheets 01 and 02 (P1).
-use mathlib.Core.Bool.{Bool, cond}
 use mathlib.Core.List.{List, [], _∷_}
 use mathlib.Core.Path.{_≡_}
 use Prim.Native.Nat.{ℕ}
 use lib.ListN.{length}
-use Rattle.settings.specs.declared.Settings.{Settings}
-use Rattle.settings.specs.Settings.{freshSettings}
-use Rattle.host.specs.Names.{rowOf}
-use Rattle.host.specs.Fields.{blockOf}
-use Rattle.host.specs.Request.{Wrote, writes, leaves, badIn, frame}
-use Rattle.host.specs.Answer.{Front}
-use Rattle.host.specs.declared.names.Block.{Block}
-use Rattle.host.specs.declared.names.Order.{Order}
-use Rattle.host.specs.declared.names.Order.the-variants.{Stop, Sstp, Pwof, Left, Rigt, Home, Loft}
-use Rattle.host.specs.declared.fields.Fields.{Fields}
-use Rattle.host.specs.declared.fields.Fields.the-variants.{Mov, Eng, Pwr, Eds, Hom, Brk, Pid}
-use Rattle.host.specs.declared.request.Request.{Request}
-use Rattle.host.specs.declared.answer.Answer.{Answer}
-use Rattle.host.specs.declared.answer.Answer.the-variants.{Zero, SetEcho, OrderEcho, Data, Errc, Errd, Errv}
+use Rattle.host.specs.Names.{blockNumber, orderNumber}
+use Rattle.host.specs.declared.FoundBlock.{FoundBlock}
+use Rattle.host.specs.declared.FoundBlock.the-variants as block
+use Rattle.host.specs.declared.FoundOrder.{FoundOrder}
+use Rattle.host.specs.declared.FoundOrder.the-variants as order
+use Rattle.fields.specs.Fields.{blockOf}
+use Rattle.blocks.specs.Blocks.{fieldsAt, freshBlocks, blocksWith}
+use Rattle.blocks.specs.declared.Blocks.{Blocks}
+use Rattle.request.specs.Request.{Wrote, writes, bufferAfter, badIn, frameOf}
+use Rattle.request.specs.declared.Request.{Request}
+use Rattle.request.specs.declared.Request.the-variants.{Get, Set, Give}
+use Rattle.answer.specs.Answer.{FirstRead}
+use Rattle.answer.specs.declared.Answer.{Answer}
+use Rattle.answer.specs.declared.Answer.the-variants.{Zero, SetEcho, OrderEcho, Data, Errc, Errd, Errv}
 use Rattle.optimiser.specs.declared.FlatWritten.{FlatWritten}
 use Rattle.optimiser.specs.declared.FlatAnswer.{FlatAnswer}
 
--- ---- numbers
-
-abbrev pub blockNumber : Block → ℕ
-blockNumber b = rowOf b .number
-
--- 01: "Orders: 1 stop, 2 sstp, 3 pwof, 4 left, 5 rigt, 6 home, 7 loft."
-abbrev pub orderNumber : Order → ℕ
-orderNumber Stop = 1
-orderNumber Sstp = 2
-orderNumber Pwof = 3
-orderNumber Left = 4
-orderNumber Rigt = 5
-orderNumber Home = 6
-orderNumber Loft = 7
-
 -- ---- writing
 
+-- the request that was asked by a number: one, or none where the number is nobody's
+abbrev pub getAsked : FoundBlock → List Request
+getAsked (block.Known b) = Get b ∷ []
+getAsked block.Nobody = []
+
+abbrev pub setAsked : Blocks → FoundBlock → List Request
+setAsked x (block.Known b) = Set (fieldsAt x b) ∷ []
+setAsked x block.Nobody = []
+
+abbrev pub orderAsked : FoundOrder → List Request
+orderAsked (order.Known o) = Give o ∷ []
+orderAsked order.Nobody = []
+
 abbrev pub flatWritten : Wrote → FlatWritten
-flatWritten w = record { number = w .number; length = w .length }
+flatWritten w = record { number = w .number; size = w .size }
 
 abbrev pub nobody : FlatWritten
-nobody = record { number = 9; length = 0 }
+nobody = record { number = 9; size = 0 }
 
--- a request, where its block or order has a number of 01; else 9 is answered, and nothing written
-pub record FlatWrites (known : Bool) (q : Request) (before : List ℕ) (r : FlatWritten) (after : List ℕ) : Type 0 where
-  pub answer : r ≡ cond known (flatWritten (writes (badIn q) (frame q) (length before))) nobody
-  pub buffer : after ≡ cond known (leaves (badIn q) (frame q) before) before
+-- the writer's answer in a buffer of that room; where nothing was asked, 9
+abbrev pub flatAnswer : List Request → ℕ → FlatWritten
+flatAnswer [] room = nobody
+flatAnswer (q ∷ qs) room = flatWritten (writes (badIn q) (frameOf q) room)
+
+-- the buffer then; where nothing was asked, nothing is written
+abbrev pub flatBuffer : List Request → List ℕ → List ℕ
+flatBuffer [] before = before
+flatBuffer (q ∷ qs) before = bufferAfter (badIn q) (frameOf q) before
+
+pub record FlatWrites (asked : List Request) (before : List ℕ) (r : FlatWritten) (after : List ℕ) : Type 0 where
+  pub answer : r ≡ flatAnswer asked (length before)
+  pub buffer : after ≡ flatBuffer asked before
 
 -- ---- reading
 
--- settings with the fields of one block put in
-abbrev pub putIn : Settings → Fields → Settings
-putIn s (Mov x) = record { mov = x; eng = s .eng; pwr = s .pwr; eds = s .eds; hom = s .hom; brk = s .brk; pid = s .pid }
-putIn s (Eng x) = record { mov = s .mov; eng = x; pwr = s .pwr; eds = s .eds; hom = s .hom; brk = s .brk; pid = s .pid }
-putIn s (Pwr x) = record { mov = s .mov; eng = s .eng; pwr = x; eds = s .eds; hom = s .hom; brk = s .brk; pid = s .pid }
-putIn s (Eds x) = record { mov = s .mov; eng = s .eng; pwr = s .pwr; eds = x; hom = s .hom; brk = s .brk; pid = s .pid }
-putIn s (Hom x) = record { mov = s .mov; eng = s .eng; pwr = s .pwr; eds = s .eds; hom = x; brk = s .brk; pid = s .pid }
-putIn s (Brk x) = record { mov = s .mov; eng = s .eng; pwr = s .pwr; eds = s .eds; hom = s .hom; brk = x; pid = s .pid }
-putIn s (Pid x) = record { mov = s .mov; eng = s .eng; pwr = s .pwr; eds = s .eds; hom = s .hom; brk = s .brk; pid = x }
-
--- fresh but for one block
-abbrev pub settingsWith : Fields → Settings
-settingsWith f = putIn freshSettings f
-
 -- the kind of the answer, or 0 for none
-abbrev pub kindOf : List Answer → ℕ
-kindOf [] = 0
-kindOf (Zero ∷ xs) = 1
-kindOf (SetEcho b ∷ xs) = 2
-kindOf (OrderEcho o ∷ xs) = 3
-kindOf (Data f ∷ xs) = 4
-kindOf (Errc ∷ xs) = 5
-kindOf (Errd ∷ xs) = 6
-kindOf (Errv ∷ xs) = 7
+abbrev pub answerKind : List Answer → ℕ
+answerKind [] = 0
+answerKind (Zero ∷ xs) = 1
+answerKind (SetEcho b ∷ xs) = 2
+answerKind (OrderEcho o ∷ xs) = 3
+answerKind (Data f ∷ xs) = 4
+answerKind (Errc ∷ xs) = 5
+answerKind (Errd ∷ xs) = 6
+answerKind (Errv ∷ xs) = 7
 
 -- the number of its block or order, or 0
 abbrev pub whatOf : List Answer → ℕ
@@ -87,21 +79,21 @@ whatOf (Errc ∷ xs) = 0
 whatOf (Errd ∷ xs) = 0
 whatOf (Errv ∷ xs) = 0
 
--- its data; the settings of an answer without data are fresh
-abbrev pub settingsOf : List Answer → Settings
-settingsOf [] = freshSettings
-settingsOf (Zero ∷ xs) = freshSettings
-settingsOf (SetEcho b ∷ xs) = freshSettings
-settingsOf (OrderEcho o ∷ xs) = freshSettings
-settingsOf (Data f ∷ xs) = settingsWith f
-settingsOf (Errc ∷ xs) = freshSettings
-settingsOf (Errd ∷ xs) = freshSettings
-settingsOf (Errv ∷ xs) = freshSettings
+-- its data; all other blocks are fresh
+abbrev pub dataBlocks : List Answer → Blocks
+dataBlocks [] = freshBlocks
+dataBlocks (Zero ∷ xs) = freshBlocks
+dataBlocks (SetEcho b ∷ xs) = freshBlocks
+dataBlocks (OrderEcho o ∷ xs) = freshBlocks
+dataBlocks (Data f ∷ xs) = blocksWith f
+dataBlocks (Errc ∷ xs) = freshBlocks
+dataBlocks (Errd ∷ xs) = freshBlocks
+dataBlocks (Errv ∷ xs) = freshBlocks
 
-abbrev pub flatFront : Front → FlatAnswer
-flatFront f =
-    record { number = f .number; kind = kindOf (f .answer); what = whatOf (f .answer); length = f .length; settings = settingsOf (f .answer) }
+abbrev pub flatRead : FirstRead → FlatAnswer
+flatRead f =
+    record { number = f .number; kind = answerKind (f .answer); what = whatOf (f .answer); size = f .size; blocks = dataBlocks (f .answer) }
 
 -- an answer without data
 abbrev pub plainAnswer : ℕ → ℕ → ℕ → ℕ → FlatAnswer
-plainAnswer number length kind what = record { number = number; kind = kind; what = what; length = length; settings = freshSettings }
+plainAnswer number size kind what = record { number = number; kind = kind; what = what; size = size; blocks = freshBlocks }

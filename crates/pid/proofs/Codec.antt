@@ -8,7 +8,7 @@ use lib.Ieee.{binary32, fits}
 use lib.Ieee.Bits.{ofBits-toBits, toBits-lt}
 use Rattle.wire.specs.Layout.{Room}
 use Rattle.wire.proofs.Laid.{room-listed, room-at}
-use Rattle.wire.proofs.Tests.{all-of}
+use Rattle.ranges.proofs.Tests.{all-of}
 use Rattle.wire.proofs.Values.{bits-back, bits-judged}
 use Rattle.sheet.specs.Sheet.{pidRow}
 use Rattle.sheet.specs.Rows.{widths, firstBad, verdicts}

@@ -2,7 +2,7 @@
 use sheet::Head;
 ghost use mathlib.Core.Path.{_≡_};
 ghost use lib.Seq.{sets};
-ghost use Rattle.sheet.specs.Sheet.{pidRow};
+ghost use Rattle.sheet.specs.Sheet.{pidRow, spid, gpid};
 ghost use Rattle.sheet.specs.Rows.{headOf, numbersIn, dataOf, firstBad, fresh};
 ghost use Rattle.pid.specs.Pid.{pidOf, pidNumbers};
 
@@ -23,9 +23,9 @@ impl Pid {
 
     pub const GET: u32 = 0x64697067;
 
-    // The three constants, held against the sheet's row.
+    // The three constants, held against the sheet.
     pub fn head() -> Head
-        ensures { λ r. ⌜ r ≡ headOf pidRow ⌝ }
+        ensures { λ r. ⌜ r ≡ headOf spid gpid ⌝ }
     {
         Head {
             total: Pid::TOTAL,
@@ -72,14 +72,14 @@ impl Pid {
         ensures { λ r. ⌜ r ≡ firstBad pidRow (pidNumbers self) ⌝ }
     {
         let ns = self.numbers();
-        wire::first_false(
+        ranges::first_false(
             &[
                 true,
                 true,
                 true,
-                wire::is_finite(ns[3]),
-                wire::is_finite(ns[4]),
-                wire::is_finite(ns[5]),
+                ranges::is_finite(ns[3]),
+                ranges::is_finite(ns[4]),
+                ranges::is_finite(ns[5]),
             ],
         )
     }

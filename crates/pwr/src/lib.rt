@@ -2,7 +2,7 @@
 use sheet::Head;
 ghost use mathlib.Core.Path.{_≡_};
 ghost use lib.Seq.{sets};
-ghost use Rattle.sheet.specs.Sheet.{pwrRow};
+ghost use Rattle.sheet.specs.Sheet.{pwrRow, spwr, gpwr};
 ghost use Rattle.sheet.specs.Rows.{headOf, numbersIn, dataOf, firstBad, fresh};
 ghost use Rattle.pwr.specs.Pwr.{pwrOf, pwrNumbers};
 
@@ -22,9 +22,9 @@ impl Pwr {
 
     pub const GET: u32 = 0x72777067;
 
-    // The three constants, held against the sheet's row.
+    // The three constants, held against the sheet.
     pub fn head() -> Head
-        ensures { λ r. ⌜ r ≡ headOf pwrRow ⌝ }
+        ensures { λ r. ⌜ r ≡ headOf spwr gpwr ⌝ }
     {
         Head {
             total: Pwr::TOTAL,
@@ -69,13 +69,13 @@ impl Pwr {
         ensures { λ r. ⌜ r ≡ firstBad pwrRow (pwrNumbers self) ⌝ }
     {
         let ns = self.numbers();
-        wire::first_false(
+        ranges::first_false(
             &[
-                wire::is_within(0, 100, ns[0]),
+                ranges::is_within(0, 100, ns[0]),
                 true,
                 true,
                 true,
-                wire::has_only_bits(0x07, ns[4]),
+                ranges::has_only_bits(0x07, ns[4]),
             ],
         )
     }

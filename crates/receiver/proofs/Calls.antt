@@ -2,11 +2,11 @@
 -- The table of refusals is the rule's (Numbered). Assumes nothing.
 use Prim.Native.Nat.{ℕ, _≤_, _<_}
 use mathlib.Core.Path.{_≡_, refl, ap, sym, _∙_}
-use mathlib.Core.Bool.{true, cond}
+use mathlib.Core.Bool.{cond}
 use mathlib.Core.List.{List, [], _∷_}
 use native.Mathlib.Omega.{arith}
 use lib.Dec.{eqb}
-use lib.ListN.{length, take, length-take}
+use lib.ListN.{length}
 use borrow.Author.Tests.{ne-eqb, eqb-true}
 use Rattle.rule.specs.Rule.{Said, State}
 use Rattle.rule.specs.Calls.{Called, accept, call}
@@ -16,52 +16,44 @@ use Rattle.rule.proofs.Calls.{call-none}
 use Rattle.rule.proofs.Loop.{accept-ready}
 use Rattle.rule.proofs.Progress.{step-says, accept-takes, accept-orders}
 use Rattle.rule.proofs.Numbered.{call-by, call-accepted}
-use Rattle.unit.specs.Names.{need}
-use Rattle.unit.specs.Unit.{Memory, orderOf}
-use Rattle.unit.specs.Protocol.{protocol, soundState}
-use Rattle.unit.proofs.Need.{need-most}
-use Rattle.unit.proofs.Replies.{given, act-order, silent, reply-most}
-use Rattle.unit.proofs.Sound.{sound-begun}
-use Rattle.unit.specs.declared.names.Order.{Order}
-use Rattle.receiver.specs.State.{stateOf, boardOf}
-use Rattle.receiver.specs.Receive.{answer, Received, Ran}
-use Rattle.receiver.specs.declared.Board.{Board}
-use Rattle.receiver.specs.declared.Call.{Call}
-use Rattle.receiver.proofs.Lists.{padded-take}
-
--- ---- a board and the state it stands for
-
--- there and back
-pub state-board : (s : State Memory) → stateOf (boardOf s) ≡ s
-state-board s = λ i. record { memory = s .memory; line = record { unfinished = padded-take (s .line .unfinished) i; last = s .line .last } }
-
--- a sound board's bytes are a true beginning, inside the array
-pub sound-count : (b : Board) → soundState (stateOf b) ≡ true → length (b .held) ≡ 48 → b .count < need (take (b .count) (b .held))
-sound-count b h f = omega (arith, sound-begun (stateOf b) h, need-most (take (b .count) (b .held)), length-take (b .count) (b .held))
+use Rattle.sheet.specs.Lengths.{longestFrame, longestPiece}
+use Rattle.names.specs.Names.{given}
+use Rattle.names.specs.declared.Order.{Order}
+use Rattle.unit.specs.Unit.{orderOf}
+use Rattle.unit.specs.Protocol.{protocol}
+use Rattle.unit.specs.declared.Memory.{Memory}
+use Rattle.unit.proofs.Replies.{act-order, silent, reply-most}
+use Rattle.state.specs.State.{stateOf, boardOf}
+use Rattle.state.specs.Sound.{refusalOf}
+use Rattle.state.specs.declared.Board.{Board}
+use Rattle.state.specs.declared.Call.{Call}
+use Rattle.state.proofs.Boards.{state-board}
+use Rattle.line.specs.Line.{Ran}
+use Rattle.receiver.specs.Receive.{answer, Received}
 
 -- ---- an accepted call
 
 -- "With a piece that is not empty, an accepted call takes at least one byte."
-pub accept-some : (s : State Memory) (t room : ℕ) (piece : List ℕ) → 48 ≤ room → 0 < length piece → 0 < accept protocol s t room piece .taken
+pub accept-some : (s : State Memory) (t room : ℕ) (piece : List ℕ) → longestFrame ≤ room → 0 < length piece → 0 < accept protocol s t room piece .taken
 accept-some s t room [] h k = absurd (omega arith)
 accept-some s t room (x ∷ piece) h k = accept-takes protocol s t room x piece (omega (arith, reply-most s t x))
 
 -- its first byte finds the state ready
-pub accept-readied : (s : State Memory) (t room : ℕ) (piece : List ℕ) → 48 ≤ room → 0 < length piece
+pub accept-readied : (s : State Memory) (t room : ℕ) (piece : List ℕ) → longestFrame ≤ room → 0 < length piece
     → accept protocol s t room piece ≡ accept protocol (ready protocol s t) t room piece
 accept-readied s t room [] h k = absurd (omega arith)
 accept-readied s t room (x ∷ piece) h k = accept-ready protocol silent s t room x piece (omega (arith, reply-most s t x))
 
 -- what the loop makes of it is the call
-pub ran-call : (b : Board) (t : ℕ) (piece before after : List ℕ) (r : Call) → length piece ≤ 250 → 48 ≤ length before → soundState (stateOf b) ≡ true
+pub ran-call : (b : Board) (t : ℕ) (piece before after : List ℕ) (r : Call) → length piece ≤ longestPiece → longestFrame ≤ length before → refusalOf b ≡ 0
     → 0 < length piece → Ran (accept protocol (ready protocol (stateOf b) t) t (length before) piece) before r after
-    → Received (call protocol (stateOf b) t (length before) piece) b before r after
+    → Received (call protocol (refusalOf b) (stateOf b) t (length before) piece) b before r after
 ran-call b t piece before after r fits wide sound some ran =
     let room = length before in
-    let is = call-accepted protocol (stateOf b) t room piece fits wide sound in
-    let takes : 0 < call protocol (stateOf b) t room piece .taken = rw is (accept-some (stateOf b) t room piece wide some) in
+    let is = call-accepted protocol (refusalOf b) (stateOf b) t room piece fits wide sound in
+    let takes : 0 < call protocol (refusalOf b) (stateOf b) t room piece .taken = rw is (accept-some (stateOf b) t room piece wide some) in
     let done = rw (sym (is ∙ accept-readied (stateOf b) t room piece wide some)) at ran in
-    record { result = done .result ∙ rw (ne-eqb (call protocol (stateOf b) t room piece .taken) 0 (λ e. omega arith)); reply = done .reply }
+    record { result = done .result ∙ rw (ne-eqb (call protocol (refusalOf b) (stateOf b) t room piece .taken) 0 (λ e. omega arith)); reply = done .reply }
 
 -- ---- what an answer leaves
 
@@ -72,26 +64,26 @@ Told os = given (orderOf os) ≡ os
 one-order : (piece : List ℕ) (s : State Memory) (t room : ℕ) → Told (accept protocol s t room piece .said .orders)
 one-order = accept-orders protocol Told refl (step-says protocol silent (λ _ os. Told os) refl act-order)
 
-module _ (s : State Memory) (t room : ℕ) (piece : List ℕ) where
+module _ (verdict : ℕ) (s : State Memory) (t room : ℕ) (piece : List ℕ) where
   abbrev c : Called Order Memory
-  c = call protocol s t room piece
+  c = call protocol verdict s t room piece
 
   pub call-order : given (orderOf (c .said .orders)) ≡ c .said .orders
   call-order =
-      call-by protocol s t room piece (λ (d : Called Order Memory). Told (d .said .orders)) (λ _. refl) (λ _ _. refl) (λ _ _ _. refl)
+      call-by protocol verdict s t room piece (λ (d : Called Order Memory). Told (d .said .orders)) (λ _. refl) (λ _ _. refl) (λ _ _ _. refl)
       (λ _ _ _. one-order piece s t room)
 
   -- the board that an answer leaves stands for what the rule leaves
   pub call-board : cond (eqb (c .taken) 0) (boardOf s) (boardOf (c .said .next)) ≡ boardOf (c .said .next)
   call-board =
       eitherBy (λ (x : Board). x ≡ boardOf (c .said .next)) (eqb (c .taken) 0) _ _
-      (λ e. ap (λ (a : Said Order (State Memory)). boardOf (a .next)) (sym (call-none protocol s t room piece (eqb-true (c .taken) 0 e)))) (λ _. refl)
+      (λ e. ap (λ (a : Said Order (State Memory)). boardOf (a .next)) (sym (call-none protocol verdict s t room piece (eqb-true (c .taken) 0 e)))) (λ _. refl)
 
 -- the same of the states, whatever the board's spare bytes
 pub call-state : (b : Board) (t room : ℕ) (piece : List ℕ)
-    → let c = call protocol (stateOf b) t room piece in stateOf (answer b c .board) ≡ c .said .next
+    → let c = call protocol (refusalOf b) (stateOf b) t room piece in stateOf (answer b c .board) ≡ c .said .next
 call-state b t room piece =
-    let c = call protocol (stateOf b) t room piece in
+    let c = call protocol (refusalOf b) (stateOf b) t room piece in
     eitherBy (λ (x : Board). stateOf x ≡ c .said .next) (eqb (c .taken) 0) _ _
-    (λ e. ap (λ (a : Said Order (State Memory)). a .next) (sym (call-none protocol (stateOf b) t room piece (eqb-true (c .taken) 0 e))))
+    (λ e. ap (λ (a : Said Order (State Memory)). a .next) (sym (call-none protocol (refusalOf b) (stateOf b) t room piece (eqb-true (c .taken) 0 e))))
     (λ _. state-board (c .said .next))

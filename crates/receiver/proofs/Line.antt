@@ -1,25 +1,31 @@
 -- The line of a call: the bytes held that the wait leaves, and the piece behind them. Assumes nothing.
-use mathlib.Core.Path.{_≡_, refl, ap, sym, _∙_}
+use mathlib.Core.Path.{_≡_, refl, ap, sym, subst, _∙_}
 use mathlib.Core.Bool.{Bool, true, false, cond}
 use mathlib.Core.List.{List, [], _∷_, _++_}
 use Prim.Native.Nat.{ℕ, _+_, _-_, _≤_, _<_}
+use native.Mathlib.Nat.{zero-add}
 use native.Mathlib.Omega.{arith}
-use lib.ListN.{length, take}
+use lib.Dec.{T, eqb, ltb}
+use lib.ListN.{length, getD, take, length-append}
 use lib.Seq.{length-take-le}
+use borrow.Author.Tests.{eq-eqb, ne-eqb, eqb-false, ltb-true}
 use Rattle.rule.specs.Run.{late}
 use Rattle.rule.specs.Calls.{Called, accept}
-use Rattle.rule.specs.Loop.{stateAt, lose, ready, later}
-use Rattle.rule.proofs.Loop.{accept-number}
-use Rattle.rule.proofs.Units.{on-line}
-use Rattle.unit.specs.Names.{need}
-use Rattle.unit.specs.Unit.{Memory, memory, act}
+use Rattle.rule.specs.Loop.{over, stateAt, lose, ready, later}
+use Rattle.rule.proofs.Loop.{accept-number, later-start}
+use Rattle.rule.proofs.Units.{on-line, unit-open}
+use Rattle.sheet.specs.Lengths.{longestFrame}
+use Rattle.names.specs.Names.{need}
+use Rattle.names.specs.declared.Order.{Order}
+use Rattle.names.specs.declared.Order.the-variants.{Nothing}
+use Rattle.names.proofs.Need.{need-law, need-some, need-most, need-zero, need-name, need-more}
+use Rattle.unit.specs.Unit.{act}
 use Rattle.unit.specs.Protocol.{protocol}
-use Rattle.unit.proofs.Need.{need-law, need-some, need-most}
-use Rattle.unit.specs.declared.names.Order.{Order}
-use Rattle.receiver.specs.State.{stateOf}
-use Rattle.receiver.specs.Receive.{ran, Ran}
-use Rattle.receiver.specs.declared.Board.{Board}
-use Rattle.receiver.specs.declared.Call.{Call}
+use Rattle.unit.specs.declared.Memory.{Memory}
+use Rattle.state.specs.State.{stateOf, boardOf, padded}
+use Rattle.state.specs.declared.Board.{Board}
+use Rattle.state.specs.declared.Call.{Call}
+use Rattle.line.specs.Line.{ran, Ran, holding}
 
 -- "without reply or flag": bytes that are dropped leave the memory
 lose-is : (m : Memory) (u : List ℕ) → lose protocol m u ≡ m
@@ -32,18 +38,18 @@ module _ (b : Board) (t had : ℕ) (begun : b .count < need (take (b .count) (b 
   u = take had (b .held)
 
   abbrev m : Memory
-  m = memory (b .settings) (b .notes)
+  m = b .memory
 
   -- the wait drops them, or it does not
-  had-cases : (P : ℕ → Type 0) → P 0 → P (b .count) → P had
+  pub had-cases : (P : ℕ → Type 0) → P 0 → P (b .count) → P had
   had-cases P none all = rw is (by (late t (b .stamp)))
     where
       by : (y : Bool) → P (cond y 0 (b .count))
       by true = none
       by false = all
 
-  pub had-short : had < 48
-  had-short = had-cases (λ (n : ℕ). n < 48) (omega arith) (omega (arith, need-most (take (b .count) (b .held))))
+  pub had-short : had < longestFrame
+  had-short = had-cases (λ (n : ℕ). n < longestFrame) (omega arith) (omega (arith, need-most (take (b .count) (b .held))))
 
   -- the first byte of the piece finds the state ready
   readied : ready protocol (stateOf b) t ≡ stateAt m u t
@@ -54,11 +60,11 @@ module _ (b : Board) (t had : ℕ) (begun : b .count < need (take (b .count) (b 
       by true e = let n : had ≡ 0 = is ∙ rw e in rw (e, n, lose-is m (take (b .count) (b .held)))
       by false e = let n : had ≡ b .count = is ∙ rw e in rw (e, n)
 
-  module _ (full : length (b .held) ≡ 48) where
+  module _ (full : length (b .held) ≡ longestFrame) where
     pub had-long : length u ≡ had
     had-long = length-take-le had (b .held) (omega (arith, had-short))
 
-    begins : length u < need u
+    pub begins : length u < need u
     begins = rw had-long (had-cases (λ (n : ℕ). n < need (take n (b .held))) (need-some []) begun)
 
     -- the call on the piece, by the call on the line
@@ -84,3 +90,34 @@ module _ (b : Board) (t had : ℕ) (begun : b .count < need (take (b .count) (b 
                 ∙ (λ i. record { number = sym (accept-number protocol (ready protocol (stateOf b) t) t (length before) piece) i; taken = k i; written = ran c .written; order = ran c .order; board = ran c .board });
             reply = on .reply;
           }
+
+    -- a piece that ends no unit: all of it is held
+    pub stays-open : (piece before held : List ℕ) (count : ℕ) → held ≡ padded (u ++ piece) → count ≡ had + length piece → length (u ++ piece) < need (u ++ piece)
+        → Ran (accept protocol (ready protocol (stateOf b) t) t (length before) piece) before
+        (record { board = record { memory = m; held = held; count = count; stamp = t }; taken = length piece; written = 0; number = 0; order = Nothing }) before
+    stays-open piece before held count laid counts h =
+        let d = u ++ piece in
+        let room = length before in
+        let long : length d ≡ had + length piece = length-append u piece ∙ ap (λ (k : ℕ). k + length piece) had-long in
+        let stays : accept protocol (stateAt m [] t) t room d ≡ over (length d) [] [] (stateAt m d t) =
+        later-start protocol (stateAt m [] t) t room d ∙ unit-open protocol need-law 0 [] m t room d h ∙ rw (zero-add (length d)) in
+        let all : Ran (accept protocol (stateAt m [] t) t room d) before (holding m Nothing t d (length d) 0) before = rw stays (record { result = refl; reply = refl }) in
+        let taken : length d - had ≡ length piece = omega (arith, long) in
+        let got = less-had d piece before before refl (holding m Nothing t d (length d) 0) all in
+        record {
+          result = (λ i. record { board = record { memory = m; held = laid i; count = (counts ∙ sym long) i; stamp = t }; taken = sym taken i; written = 0; number = 0; order = Nothing }) ∙ got .result;
+          reply = got .reply;
+        }
+
+-- what `is_open` says of a beginning u, which wants n bytes where it has one, and the piece behind it
+pub opens : (u piece : List ℕ) (had n : ℕ) → length u ≡ had → length u < need u → ((had ≡ 0 → ⊥) → n ≡ need u)
+    → cond (eqb had 0) (cond (eqb (getD piece 0 0) 0) false (ltb (length piece) 4)) (ltb (had + length piece) n) ≡ true → length (u ++ piece) < need (u ++ piece)
+opens [] piece had n l h is e = by (eqb (getD piece 0 0) 0) refl (rw (eq-eqb had 0 (sym l)) at e)
+  where
+    by : (y : Bool) → eqb (getD piece 0 0) 0 ≡ y → cond y false (ltb (length piece) 4) ≡ true → length piece < need piece
+    by true z f = absurd (subst T (sym f) tt)
+    by false z f = let short = ltb-true (length piece) 4 f in omega (arith, short, need-name piece (eqb-false (getD piece 0 0) 0 z) short)
+opens (a ∷ u) piece had n l h is e =
+    let some : had ≡ 0 → ⊥ = λ z. omega arith in
+    need-more (a ∷ u) piece (λ z. omega (arith, need-zero (a ∷ u) z))
+    (omega (arith, is some, length-append (a ∷ u) piece, ltb-true (had + length piece) n (rw (ne-eqb had 0 some) at e)))

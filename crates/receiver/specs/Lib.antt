@@ -1,3 +1,1 @@
-pub mod State
 pub mod Receive
-pub mod Report

@@ -6,13 +6,12 @@ use Prim.Native.Nat.{ℕ}
 use lib.Dec.{eqb}
 use lib.ListN.{length, drop}
 use Rattle.rule.specs.Calls.{Called}
-use Rattle.rule.specs.Loop.{stateAt}
-use Rattle.unit.specs.Unit.{Memory, memory, orderOf}
-use Rattle.unit.specs.declared.Judged.{Judged}
-use Rattle.unit.specs.declared.names.Order.{Order}
-use Rattle.receiver.specs.State.{boardOf}
-use Rattle.receiver.specs.declared.Board.{Board}
-use Rattle.receiver.specs.declared.Call.{Call}
+use Rattle.names.specs.declared.Order.{Order}
+use Rattle.unit.specs.Unit.{orderOf}
+use Rattle.unit.specs.declared.Memory.{Memory}
+use Rattle.state.specs.State.{boardOf}
+use Rattle.state.specs.declared.Board.{Board}
+use Rattle.state.specs.declared.Call.{Call}
 
 -- "It answers a number, the bytes taken, the reply bytes written, the order and the next state." A call that took nothing leaves the board as it
 -- is, spare bytes too
@@ -30,30 +29,4 @@ answer b c =
 -- before it in the same buffer, and every byte past the written part keeps its value."
 pub record Received (c : Called Order Memory) (board : Board) (before : List ℕ) (r : Call) (after : List ℕ) : Type 0 where
   pub result : r ≡ answer board c
-  pub reply : after ≡ c .said .reply ++ drop (length (c .said .reply)) before
-
--- ---- inside a call
-
--- the memory that a unit left
-abbrev pub kept : Judged → Memory
-kept said = memory (said .settings) (said .notes)
-
--- the answer that keeps what a unit said, with the bytes u held at the stamp t
-abbrev pub holding : Judged → ℕ → List ℕ → ℕ → ℕ → Call
-holding said t u taken written =
-    record {
-      number = 0;
-      taken = taken;
-      written = written;
-      order = said .order;
-      board = boardOf (stateAt (kept said) u t);
-    }
-
--- the loop's answer
-abbrev pub ran : Called Order Memory → Call
-ran c =
-    record { number = c .number; taken = c .taken; written = length (c .said .reply); order = orderOf (c .said .orders); board = boardOf (c .said .next) }
-
-pub record Ran (c : Called Order Memory) (before : List ℕ) (r : Call) (after : List ℕ) : Type 0 where
-  pub result : r ≡ ran c
   pub reply : after ≡ c .said .reply ++ drop (length (c .said .reply)) before

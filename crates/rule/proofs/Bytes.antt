@@ -7,7 +7,7 @@ use Rattle.rule.specs.Run.{Item, byte, event, bytes, late}
 use Rattle.rule.specs.Framing.{Needs, Token, whole, lost, seen, unitsOf}
 use Rattle.rule.specs.Rule.{Line}
 use Rattle.rule.specs.Step.{Fed, cutOf, settle, feedOn, feed, feeds}
-use Rattle.rule.specs.Facts.{spent, held}
+use Rattle.rule.specs.Facts.{spent, allBytes}
 use Rattle.rule.proofs.Choice.{either}
 use Rattle.rule.proofs.Framing.{settle-either, feeds-is-units}
 
@@ -23,21 +23,21 @@ module _ {E : Type 0} where
   bytes-cons (event e) r = refl
 
 module _ {E : Type 0} (cuts : ℕ → E → Bool) (need : List ℕ → ℕ) where
-  settle-held : (u : List ℕ) (t : ℕ) → held (cutOf (settle cuts need u t)) ≡ u
-  settle-held u t = settle-either cuts need (λ (f : Fed E). held (cutOf f) ≡ u) u t (λ _. append-nil (u ++ []) ∙ append-nil u) (λ _. refl)
+  settle-held : (u : List ℕ) (t : ℕ) → allBytes (cutOf (settle cuts need u t)) ≡ u
+  settle-held u t = settle-either cuts need (λ (f : Fed E). allBytes (cutOf f) ≡ u) u t (λ _. append-nil (u ++ []) ∙ append-nil u) (λ _. refl)
 
-  feed-held : (u : List ℕ) (t : ℕ) (x : Item E) → held (cutOf (feedOn cuts need u t x)) ≡ u ++ bytes (x ∷ [])
+  feed-held : (u : List ℕ) (t : ℕ) (x : Item E) → allBytes (cutOf (feedOn cuts need u t x)) ≡ u ++ bytes (x ∷ [])
   unfolding feedOn
   feed-held [] t (byte s b) = settle-held (b ∷ []) s
   feed-held [] t (event e) = refl
   feed-held (a ∷ u) t (byte s b) =
-      either (λ (f : Fed E). held (cutOf f) ≡ a ∷ u ++ b ∷ []) (late s t) _ _
+      either (λ (f : Fed E). allBytes (cutOf f) ≡ a ∷ u ++ b ∷ []) (late s t) _ _
       (rw append-assoc (ap (λ (w : List ℕ). a ∷ u ++ w) (settle-held (b ∷ []) s))) (settle-held (a ∷ u ++ b ∷ []) s)
   feed-held (a ∷ u) t (event e) =
-      either (λ (f : Fed E). held (cutOf f) ≡ a ∷ u ++ []) (cuts t e) _ _ (append-nil (a ∷ u ++ [])) (sym (append-nil (a ∷ u)))
+      either (λ (f : Fed E). allBytes (cutOf f) ≡ a ∷ u ++ []) (cuts t e) _ _ (append-nil (a ∷ u ++ [])) (sym (append-nil (a ∷ u)))
 
   -- byte by byte, whatever is unfinished at first
-  pub feeds-held : (r : List (Item E)) (l : Line) → held (cutOf (feeds cuts need l r)) ≡ l .unfinished ++ bytes r
+  pub feeds-held : (r : List (Item E)) (l : Line) → allBytes (cutOf (feeds cuts need l r)) ≡ l .unfinished ++ bytes r
   unfolding feeds feed
   feeds-held [] l = sym (append-nil (l .unfinished))
   feeds-held (x ∷ r) l =
@@ -50,4 +50,4 @@ module _ {E : Type 0} (cuts : ℕ → E → Bool) (need : List ℕ → ℕ) wher
   module _ (law : Needs need) (r : List (Item E)) where
     -- NO BYTE IS LOST
     pub units-bytes : let c = unitsOf cuts need r in bytes r ≡ spent (c .tokens) ++ c .unfinished
-    units-bytes = sym (feeds-held r (record { unfinished = []; last = 0 })) ∙ ap held (feeds-is-units cuts need law r 0)
+    units-bytes = sym (feeds-held r (record { unfinished = []; last = 0 })) ∙ ap allBytes (feeds-is-units cuts need law r 0)

@@ -3,7 +3,7 @@ use Prim.Native.Nat.{ℕ, _<_}
 use mathlib.Core.Path.{_≡_, refl, ap, sym, _∙_}
 use mathlib.Core.List.{List, [], _∷_, _++_}
 use native.Mathlib.Omega.{arith}
-use lib.Dec.{ltb}
+use lib.Dec.{eqb, ltb}
 use lib.ListN.{length, take}
 use lib.Seq.{length-take-le}
 use Rattle.rule.specs.Run.{Item, byte, lastStamp, at}
@@ -35,17 +35,17 @@ module _ {E O M : Type 0} (p : Protocol E O M) where
         at-next = λ s _ x _ c _ _ ih. record { same = ap (λ (a : Said O (State M)). then (says p t s x) (λ _. a)) (ih .same); most = omega (arith, ih .most) };
       }) piece s room
 
-  pub call-steps : (piece : List ℕ) (s : State M) (t room : ℕ) → TakesSteps p s t piece (call p s t room piece)
+  pub call-steps : (verdict : ℕ) (piece : List ℕ) (s : State M) (t room : ℕ) → TakesSteps p s t piece (call p verdict s t room piece)
   unfolding call
-  call-steps piece s t room =
-      either (TakesSteps p s t piece) (ltb (p .longest) (length piece)) _ _ (none-steps s t 1 piece)
-      (either (TakesSteps p s t piece) (ltb room (p .least)) _ _ (none-steps s t 2 piece)
-      (either (TakesSteps p s t piece) (p .sound s) _ _ (accept-steps piece s t room) (none-steps s t 3 piece)))
+  call-steps verdict piece s t room =
+      either (TakesSteps p s t piece) (ltb (p .longestPiece) (length piece)) _ _ (none-steps s t 1 piece)
+      (either (TakesSteps p s t piece) (ltb room (p .leastRoom)) _ _ (none-steps s t 2 piece)
+      (either (TakesSteps p s t piece) (eqb verdict 0) _ _ (accept-steps piece s t room) (none-steps s t verdict piece)))
 
   -- a call that took nothing did nothing
-  pub call-none : (s : State M) (t room : ℕ) (piece : List ℕ) → call p s t room piece .taken ≡ 0 → call p s t room piece .said ≡ quiet s
+  pub call-none : (verdict : ℕ) (s : State M) (t room : ℕ) (piece : List ℕ) → let c = call p verdict s t room piece in c .taken ≡ 0 → c .said ≡ quiet s
   unfolding steps
-  call-none s t room piece e = call-steps piece s t room .same ∙ ap (λ (k : ℕ). steps p s (at t (take k piece))) e
+  call-none verdict s t room piece e = call-steps verdict piece s t room .same ∙ ap (λ (k : ℕ). steps p s (at t (take k piece))) e
 
   -- bytes that share a stamp leave it as the last one
   at-last : (t s : ℕ) (u : List ℕ) → 0 < length u → lastStamp {E = E} s (at t u) ≡ t
@@ -55,9 +55,9 @@ module _ {E O M : Type 0} (p : Protocol E O M) where
   at-last t s (b ∷ c ∷ u) h = at-last t t (c ∷ u) (omega arith)
 
   -- "Each byte taken sets the last stamp."
-  pub call-stamp : (s : State M) (t room : ℕ) (piece : List ℕ) → let c = call p s t room piece in 0 < c .taken → c .said .next .line .last ≡ t
-  call-stamp s t room piece some =
-      let is = call-steps piece s t room in
-      let u = take (call p s t room piece .taken) piece in
+  pub call-stamp : (verdict : ℕ) (s : State M) (t room : ℕ) (piece : List ℕ) → let c = call p verdict s t room piece in 0 < c .taken → c .said .next .line .last ≡ t
+  call-stamp verdict s t room piece some =
+      let is = call-steps verdict piece s t room in
+      let u = take (call p verdict s t room piece .taken) piece in
       ap (λ (a : Said O (State M)). a .next .line .last) (is .same) ∙ steps-last p (at t u) s
-      ∙ at-last t (s .line .last) u (omega (arith, length-take-le (call p s t room piece .taken) piece (is .most)))
+      ∙ at-last t (s .line .last) u (omega (arith, length-take-le (call p verdict s t room piece .taken) piece (is .most)))

@@ -2,7 +2,7 @@
 use Prim.Native.Nat.{ℕ, suc, _-_}
 use mathlib.Core.Bool.{cond}
 use mathlib.Core.List.{List, [], _∷_}
-use lib.Dec.{leb, ltb}
+use lib.Dec.{eqb, leb, ltb}
 use lib.ListN.{length}
 use Rattle.rule.specs.Run.{byte}
 use Rattle.rule.specs.Rule.{Said, quiet, then, State, Protocol}
@@ -44,7 +44,11 @@ module _ {E O M : Type 0} (p : Protocol E O M) where
       let a = step p s (byte t x) in
       cond (leb (length (a .reply)) room) (more a (accept (a .next) t (room - length (a .reply)) piece)) (none 0 s)
 
-  -- "When, tested in this sequence": 1 "piece longer than 250", 2 "reply room under 48", 3 "the state is not sound", 0 "otherwise"
-  unfoldable pub call : State M → ℕ → ℕ → List ℕ → Called O M
-  call s t room piece =
-      cond (ltb (p .longest) (length piece)) (none 1 s) (cond (ltb room (p .least)) (none 2 s) (cond (p .sound s) (accept s t room piece) (none 3 s)))
+  -- "When, tested in this sequence": 1 "piece longer than 250", 2 "reply room under 48", then the board's own verdict on its state, which is 0 or the
+  -- number of its refusal (3 "the state is not sound"), 0 "otherwise"
+  unfoldable pub call : ℕ → State M → ℕ → ℕ → List ℕ → Called O M
+  call verdict s t room piece =
+      cond (ltb (p .longestPiece) (length piece)) (none 1 s)
+      (cond (ltb room (p .leastRoom)) (none 2 s)
+      (cond (eqb verdict 0) (accept s t room piece)
+      (none verdict s)))

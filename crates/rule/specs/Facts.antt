@@ -24,8 +24,8 @@ module _ {E : Type 0} where
   spent (seen e ∷ ks) = spent ks
 
   -- all the bytes of a cut
-  abbrev pub held : Cut E → List ℕ
-  held c = spent (c .tokens) ++ c .unfinished
+  abbrev pub allBytes : Cut E → List ℕ
+  allBytes c = spent (c .tokens) ++ c .unfinished
 
   -- bytes, each behind its own stamp
   abbrev pub spread : List ℕ → List ℕ → List (Item E)

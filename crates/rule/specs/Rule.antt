@@ -43,10 +43,9 @@ pub record Protocol (E O M : Type 0) : Type 0 where
   pub need : List ℕ → ℕ
   -- what a unit replies, orders and stores: the bullets "Unknown identifier", "Get", "Order" and "Set"
   pub act : M → Token E → Said O M
-  -- a call's longest piece and least room, and the sound states: the rule itself reads none of the three
-  pub longest : ℕ
-  pub least : ℕ
-  pub sound : State M → Bool
+  -- a call's longest piece and least room: the rule itself reads neither
+  pub longestPiece : ℕ
+  pub leastRoom : ℕ
 
 module _ {E O M : Type 0} (p : Protocol E O M) where
   -- unit after unit, each from the memory that the one before it left

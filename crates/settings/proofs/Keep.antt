@@ -8,7 +8,7 @@ use lib.Ieee.{toBits, ofBits}
 use lib.ListN.{length, getD}
 use borrow.Author.Tests.{eqb-true, ne-eqb}
 use Rattle.wire.specs.Layout.{sum, Room}
-use Rattle.wire.specs.Tests.{within, signedWithin, finite, onlyBits, firstFalse}
+use Rattle.ranges.specs.Tests.{within, signedWithin, finite, onlyBits, firstFalse}
 use Rattle.sheet.specs.Sheet.{Row, movRow, engRow, pwrRow, edsRow, homRow, brkRow, pidRow}
 use Rattle.sheet.specs.Rows.{rowAt, rowIn, widths, numbersIn, dataOf, firstBad, canonical, least}
 use Rattle.sheet.proofs.Laws.{sent-again, numbers-fit}

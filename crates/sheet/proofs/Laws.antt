@@ -13,6 +13,7 @@ use Rattle.wire.specs.Layout.{sum, Room}
 use Rattle.wire.proofs.Stores.{front-stored}
 use Rattle.wire.proofs.Laid.{numbers-laid, laid-numbers, laid-then-zeros, length-laid, length-numbers, numbers-room, numbers-take, room-length}
 use Rattle.sheet.specs.Sheet.{Row}
+use Rattle.sheet.specs.Lengths.{longestFrame}
 use Rattle.sheet.specs.Rows.{widths, total, numbersIn, dataOf, canonical, least, leastFrom}
 
 -- ---- data sections
@@ -46,7 +47,7 @@ module _ (r : Row) where
   numbers-fit d b = numbers-room (widths r) 0 d b
 
   -- laid out aside, in a buffer that the longest frame fits, it stands in front
-  module _ (ns : List ℕ) (n : ℕ) (is : n ≡ total r) (most : total r ≤ 48) (zs aside : List ℕ) (room : 48 ≡ length zs) (laid : aside ≡ sets zs 0 (dataOf r ns)) where
+  module _ (ns : List ℕ) (n : ℕ) (is : n ≡ total r) (most : total r ≤ longestFrame) (zs aside : List ℕ) (room : longestFrame ≡ length zs) (laid : aside ≡ sets zs 0 (dataOf r ns)) where
     pub aside-fits : n - 6 ≤ length aside
     aside-fits = omega (arith, ap length laid ∙ length-sets zs 0 (dataOf r ns))
 

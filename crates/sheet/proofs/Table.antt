@@ -1,12 +1,13 @@
 -- The sheet's own numbers, computed from its table, and laws of its rows by number. Assumes nothing.
 use mathlib.Core.Path.{_≡_, refl}
 use mathlib.Core.Bool.{Bool, true, false, cond}
-use mathlib.Core.List.{[], _∷_, map}
-use Prim.Native.Nat.{ℕ, _≤_}
+use mathlib.Core.List.{List, [], _∷_, _++_, map}
+use Prim.Native.Nat.{ℕ, _≤_, max}
 use native.Mathlib.Omega.{arith}
 use lib.Dec.{eqb}
-use Rattle.wire.specs.Tests.{within, signedWithin, finite, onlyBits, firstFalse}
-use Rattle.sheet.specs.Sheet.{Row, sheet, movRow, engRow, pwrRow, edsRow, homRow, brkRow, pidRow}
+use Rattle.ranges.specs.Tests.{within, signedWithin, finite, onlyBits, firstFalse}
+use Rattle.sheet.specs.Sheet.{Row, Command, sheet, setTable, getTable, movRow, engRow, pwrRow, edsRow, homRow, brkRow, pidRow}
+use Rattle.sheet.specs.Lengths.{longestFrame}
 use Rattle.sheet.specs.Rows.{total, firstBad, fresh, least, rowAt, rowIn}
 
 pub numbered : map (λ (r : Row). r .number) sheet ≡ 1 ∷ 2 ∷ 3 ∷ 4 ∷ 5 ∷ 6 ∷ 7 ∷ []
@@ -16,11 +17,19 @@ numbered = refl
 pub totals : map total sheet ≡ 30 ∷ 34 ∷ 20 ∷ 26 ∷ 33 ∷ 25 ∷ 48 ∷ []
 totals = refl
 
+-- the longest of the sets and of the answers to gets: the least room is no larger than it has to be
+abbrev largest : List ℕ → ℕ
+largest [] = 0
+largest (n ∷ ns) = max n (largest ns)
+
+pub longest-total : largest (map (λ (c : Command). total (c .row)) (setTable ++ getTable)) ≡ longestFrame
+longest-total = refl
+
 -- the letters of each name are its number in 004
-pub set-names : map (λ (r : Row). r .setName) sheet ≡ 0x766f6d73 ∷ 0x676e6573 ∷ 0x72777073 ∷ 0x73646573 ∷ 0x6d6f6873 ∷ 0x6b726273 ∷ 0x64697073 ∷ []
+pub set-names : map (λ (c : Command). c .name) setTable ≡ 0x766f6d73 ∷ 0x676e6573 ∷ 0x72777073 ∷ 0x73646573 ∷ 0x6d6f6873 ∷ 0x6b726273 ∷ 0x64697073 ∷ []
 set-names = refl
 
-pub get-names : map (λ (r : Row). r .getName) sheet ≡ 0x766f6d67 ∷ 0x676e6567 ∷ 0x72777067 ∷ 0x73646567 ∷ 0x6d6f6867 ∷ 0x6b726267 ∷ 0x64697067 ∷ []
+pub get-names : map (λ (c : Command). c .name) getTable ≡ 0x766f6d67 ∷ 0x676e6567 ∷ 0x72777067 ∷ 0x73646567 ∷ 0x6d6f6867 ∷ 0x6b726267 ∷ 0x64697067 ∷ []
 get-names = refl
 
 -- "mov Accel and Decel 1; eng NomCurrent 15, NomSpeed 1, MicrostepMode 1, StepsPerRev 1", every other field 0
@@ -59,7 +68,7 @@ each-row P k mov eng pwr eds hom brk pid none =
     (each-step (λ r (_ : ℕ). P r) (eqb k 7) pidRow _ 0 0 pid
     none))))))
 
--- the longest frame
-pub total-most : (k : ℕ) → total (rowAt k) ≤ 48
+-- no block's frame is longer
+pub total-most : (k : ℕ) → total (rowAt k) ≤ longestFrame
 total-most k =
-    each-row (λ (r : Row). total r ≤ 48) k (omega arith) (omega arith) (omega arith) (omega arith) (omega arith) (omega arith) (omega arith) (omega arith)
+    each-row (λ (r : Row). total r ≤ longestFrame) k (omega arith) (omega arith) (omega arith) (omega arith) (omega arith) (omega arith) (omega arith) (omega arith)

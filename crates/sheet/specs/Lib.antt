@@ -1,3 +1,4 @@
 pub mod Names
 pub mod Sheet
 pub mod Rows
+pub mod Lengths

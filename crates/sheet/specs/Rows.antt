@@ -5,9 +5,9 @@ use Prim.Native.Nat.{ℕ, zero, suc, _+_}
 use lib.Dec.{eqb}
 use lib.ListN.{getD, take, replicate}
 use Rattle.wire.specs.Layout.{numbers, laid, sum}
-use Rattle.wire.specs.Tests.{firstFalse}
+use Rattle.ranges.specs.Tests.{firstFalse}
 use Rattle.sheet.specs.declared.Head.{Head}
-use Rattle.sheet.specs.Sheet.{Field, Row, sheet}
+use Rattle.sheet.specs.Sheet.{Field, Row, Command, sheet}
 
 abbrev widthsOf : List Field → List ℕ
 widthsOf [] = []
@@ -21,8 +21,8 @@ abbrev pub total : Row → ℕ
 total r = 4 + (sum (widths r) + r .reserved) + 2
 
 -- "Each block has one length, one set name and one get name, fixed with the block."
-abbrev pub headOf : Row → Head
-headOf r = record { total = total r; set = r .setName; get = r .getName }
+abbrev pub headOf : Command → Command → Head
+headOf set get = record { total = total (set .row); set = set .name; get = get .name }
 
 -- ---- data sections
 
@@ -69,7 +69,7 @@ fresh r = leastOf (r .fields)
 -- ---- the row of a block's number; a number of no block has a row without fields
 
 abbrev noRow : Row
-noRow = record { number = 0; setName = 0; getName = 0; fields = []; reserved = 0 }
+noRow = record { number = 0; fields = []; reserved = 0 }
 
 abbrev pub rowIn : List Row → ℕ → Row
 rowIn [] k = noRow

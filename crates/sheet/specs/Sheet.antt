@@ -3,7 +3,7 @@
 use mathlib.Core.Bool.{Bool}
 use mathlib.Core.List.{List, [], _∷_}
 use Prim.Native.Nat.{ℕ}
-use Rattle.wire.specs.Tests.{any, within, signedWithin, finite, onlyBits}
+use Rattle.ranges.specs.Tests.{any, within, signedWithin, finite, onlyBits}
 use Rattle.sheet.specs.Names.{named}
 
 -- a field: its width in bytes, and the test of its number as it stands on the wire, where it is unsigned
@@ -11,12 +11,16 @@ pub record Field : Type 0 where
   pub width : ℕ
   pub test : ℕ → Bool
 
+-- a data section: the number of its block, its fields, and how many reserved bytes follow them
 pub record Row : Type 0 where
   pub number : ℕ
-  pub setName : ℕ
-  pub getName : ℕ
   pub fields : List Field
   pub reserved : ℕ
+
+-- a command that carries data, or is answered with data: its name, and the row of that data
+pub record Command : Type 0 where
+  pub name : ℕ
+  pub row : Row
 
 -- "U = unsigned, S = signed, F = 32-bit float, with widths in bits."
 abbrev U8 : (ℕ → Bool) → Field
@@ -43,8 +47,6 @@ abbrev pub movRow : Row
 movRow =
     record {
       number = 1;
-      setName = named "smov";
-      getName = named "gmov";
       fields =
           U32 (within 0 100000)  -- Speed
           ∷ U8 any  -- uSpeed
@@ -63,8 +65,6 @@ abbrev pub engRow : Row
 engRow =
     record {
       number = 2;
-      setName = named "seng";
-      getName = named "geng";
       fields =
           U16 any  -- NomVoltage
           ∷ U16 (within 15 8000)  -- NomCurrent
@@ -84,8 +84,6 @@ abbrev pub pwrRow : Row
 pwrRow =
     record {
       number = 3;
-      setName = named "spwr";
-      getName = named "gpwr";
       fields =
           U8 (within 0 100)  -- HoldCurrent
           ∷ U16 any  -- CurrReductDelay
@@ -102,8 +100,6 @@ abbrev pub edsRow : Row
 edsRow =
     record {
       number = 4;
-      setName = named "seds";
-      getName = named "geds";
       fields =
           U8 (onlyBits 0x0F)  -- BorderFlags
           ∷ U8 (onlyBits 0x07)  -- EnderFlags
@@ -122,8 +118,6 @@ abbrev pub homRow : Row
 homRow =
     record {
       number = 5;
-      setName = named "shom";
-      getName = named "ghom";
       fields =
           U32 (within 0 100000)  -- FastHome
           ∷ U8 any  -- uFastHome
@@ -142,8 +136,6 @@ abbrev pub brkRow : Row
 brkRow =
     record {
       number = 6;
-      setName = named "sbrk";
-      getName = named "gbrk";
       fields =
           U16 any  -- t1
           ∷ U16 any  -- t2
@@ -159,8 +151,6 @@ abbrev pub pidRow : Row
 pidRow =
     record {
       number = 7;
-      setName = named "spid";
-      getName = named "gpid";
       fields =
           U16 any  -- KpU
           ∷ U16 any  -- KiU
@@ -172,5 +162,56 @@ pidRow =
       reserved = 24;
     }
 
+-- the blocks that a board keeps
 abbrev pub sheet : List Row
 sheet = movRow ∷ engRow ∷ pwrRow ∷ edsRow ∷ homRow ∷ brkRow ∷ pidRow ∷ []
+
+-- ---- "The set begins with s, the get with g." Sets and gets are two tables: a later command may have no partner, or one with another section
+
+abbrev pub smov : Command
+smov = record { name = named "smov"; row = movRow }
+
+abbrev pub seng : Command
+seng = record { name = named "seng"; row = engRow }
+
+abbrev pub spwr : Command
+spwr = record { name = named "spwr"; row = pwrRow }
+
+abbrev pub seds : Command
+seds = record { name = named "seds"; row = edsRow }
+
+abbrev pub shom : Command
+shom = record { name = named "shom"; row = homRow }
+
+abbrev pub sbrk : Command
+sbrk = record { name = named "sbrk"; row = brkRow }
+
+abbrev pub spid : Command
+spid = record { name = named "spid"; row = pidRow }
+
+abbrev pub gmov : Command
+gmov = record { name = named "gmov"; row = movRow }
+
+abbrev pub geng : Command
+geng = record { name = named "geng"; row = engRow }
+
+abbrev pub gpwr : Command
+gpwr = record { name = named "gpwr"; row = pwrRow }
+
+abbrev pub geds : Command
+geds = record { name = named "geds"; row = edsRow }
+
+abbrev pub ghom : Command
+ghom = record { name = named "ghom"; row = homRow }
+
+abbrev pub gbrk : Command
+gbrk = record { name = named "gbrk"; row = brkRow }
+
+abbrev pub gpid : Command
+gpid = record { name = named "gpid"; row = pidRow }
+
+abbrev pub setTable : List Command
+setTable = smov ∷ seng ∷ spwr ∷ seds ∷ shom ∷ sbrk ∷ spid ∷ []
+
+abbrev pub getTable : List Command
+getTable = gmov ∷ geng ∷ gpwr ∷ geds ∷ ghom ∷ gbrk ∷ gpid ∷ []

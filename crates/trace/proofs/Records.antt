@@ -10,7 +10,7 @@ use lib.ListN.{length, getD, drop, replicate, length-append, length-drop, length
 use lib.Seq.{getD-append-add, getD-drop}
 use Rattle.wire.specs.Numbers.{leAt, leBytes}
 use Rattle.wire.proofs.Numbers.{leAt-same}
-use Rattle.trace.specs.Record.{wrongAt, headOf, reading, recordOf}
+use Rattle.trace.specs.Record.{longestRecord, wrongAt, headOf, reading, recordOf}
 use Rattle.trace.specs.declared.Head.{Head}
 use Rattle.trace.specs.declared.Reading.{Reading}
 use Rattle.trace.specs.declared.Reading.the-variants.{Record, More, Bad}
@@ -61,46 +61,46 @@ is-right k b s h = split (ltb k (length s)) refl
 pub record Begun (s : List ℕ) : Type 0 where
   pub first : Right 0 0x4c s
   pub second : Right 1 0x4b s
-  pub few : headOf s .count ≤ 250
+  pub few : headOf s .count ≤ longestRecord
 
 -- the verdict and what it says of the bytes s: a wrong mark or a count over 250; a record cut; a whole record
 pub data Seen (s : List ℕ) : Reading → Type 0 where
   first : Wrong 0 0x4c s → Seen s Bad
   second : Wrong 1 0x4b s → Seen s Bad
-  many : 250 < headOf s .count → Seen s Bad
+  many : longestRecord < headOf s .count → Seen s Bad
   cut : Begun s → length s < 7 + headOf s .count → Seen s More
   whole : Begun s → 7 + headOf s .count ≤ length s → Seen s (Record (headOf s))
 
 pub saw : (s : List ℕ) → Seen s (reading s)
 unfolding reading
-saw s = split (wrongAt 0 0x4c s) (wrongAt 1 0x4b s) (ltb 250 (headOf s .count)) (ltb (length s) (7 + headOf s .count)) refl refl refl refl
+saw s = split (wrongAt 0 0x4c s) (wrongAt 1 0x4b s) (ltb longestRecord (headOf s .count)) (ltb (length s) (7 + headOf s .count)) refl refl refl refl
   where
-    split : (t u v w : Bool) → wrongAt 0 0x4c s ≡ t → wrongAt 1 0x4b s ≡ u → ltb 250 (headOf s .count) ≡ v → ltb (length s) (7 + headOf s .count) ≡ w
+    split : (t u v w : Bool) → wrongAt 0 0x4c s ≡ t → wrongAt 1 0x4b s ≡ u → ltb longestRecord (headOf s .count) ≡ v → ltb (length s) (7 + headOf s .count) ≡ w
         → Seen s (cond t Bad (cond u Bad (cond v Bad (cond w More (Record (headOf s))))))
     split true u v w a b c d = first (wrong 0 0x4c s a)
     split false true v w a b c d = second (wrong 1 0x4b s b)
-    split false false true w a b c d = many (ltb-true 250 (headOf s .count) c)
+    split false false true w a b c d = many (ltb-true longestRecord (headOf s .count) c)
     split false false false true a b c d =
-        cut (record { first = right 0 0x4c s a; second = right 1 0x4b s b; few = ltb-false 250 (headOf s .count) c }) (ltb-true (length s) (7 + headOf s .count) d)
+        cut (record { first = right 0 0x4c s a; second = right 1 0x4b s b; few = ltb-false longestRecord (headOf s .count) c }) (ltb-true (length s) (7 + headOf s .count) d)
     split false false false false a b c d =
-        whole (record { first = right 0 0x4c s a; second = right 1 0x4b s b; few = ltb-false 250 (headOf s .count) c }) (ltb-false (length s) (7 + headOf s .count) d)
+        whole (record { first = right 0 0x4c s a; second = right 1 0x4b s b; few = ltb-false longestRecord (headOf s .count) c }) (ltb-false (length s) (7 + headOf s .count) d)
 
 second-bad : (s : List ℕ) → wrongAt 1 0x4b s ≡ true → reading s ≡ Bad
 unfolding reading
 second-bad s e = split (wrongAt 0 0x4c s) refl
   where
-    split : (t : Bool) → wrongAt 0 0x4c s ≡ t → cond t Bad (cond (wrongAt 1 0x4b s) Bad (cond (ltb 250 (headOf s .count)) Bad (cond (ltb (length s) (7 + headOf s .count)) More (Record (headOf s))))) ≡ Bad
+    split : (t : Bool) → wrongAt 0 0x4c s ≡ t → cond t Bad (cond (wrongAt 1 0x4b s) Bad (cond (ltb longestRecord (headOf s .count)) Bad (cond (ltb (length s) (7 + headOf s .count)) More (Record (headOf s))))) ≡ Bad
     split true a = refl
     split false a = rw e
 
-many-bad : (s : List ℕ) → 250 < headOf s .count → reading s ≡ Bad
+many-bad : (s : List ℕ) → longestRecord < headOf s .count → reading s ≡ Bad
 unfolding reading
 many-bad s h = split (wrongAt 0 0x4c s) (wrongAt 1 0x4b s)
   where
-    split : (t u : Bool) → cond t Bad (cond u Bad (cond (ltb 250 (headOf s .count)) Bad (cond (ltb (length s) (7 + headOf s .count)) More (Record (headOf s))))) ≡ Bad
+    split : (t u : Bool) → cond t Bad (cond u Bad (cond (ltb longestRecord (headOf s .count)) Bad (cond (ltb (length s) (7 + headOf s .count)) More (Record (headOf s))))) ≡ Bad
     split true u = refl
     split false true = refl
-    split false false = rw (lt-ltb 250 (headOf s .count) h)
+    split false false = rw (lt-ltb longestRecord (headOf s .count) h)
 
 -- and no other bytes have that verdict
 pub seen-is : {s : List ℕ} {r : Reading} → Seen s r → reading s ≡ r
@@ -109,9 +109,9 @@ seen-is {s} (first w) = rw (is-wrong 0 0x4c s w)
 seen-is {s} (second w) = second-bad s (is-wrong 1 0x4b s w)
 seen-is {s} (many h) = many-bad s h
 seen-is {s} (cut b h) =
-    rw (is-right 0 0x4c s (b .first), is-right 1 0x4b s (b .second), le-ltb 250 (headOf s .count) (b .few), lt-ltb (length s) (7 + headOf s .count) h)
+    rw (is-right 0 0x4c s (b .first), is-right 1 0x4b s (b .second), le-ltb longestRecord (headOf s .count) (b .few), lt-ltb (length s) (7 + headOf s .count) h)
 seen-is {s} (whole b h) =
-    rw (is-right 0 0x4c s (b .first), is-right 1 0x4b s (b .second), le-ltb 250 (headOf s .count) (b .few), le-ltb (length s) (7 + headOf s .count) h)
+    rw (is-right 0 0x4c s (b .first), is-right 1 0x4b s (b .second), le-ltb longestRecord (headOf s .count) (b .few), le-ltb (length s) (7 + headOf s .count) h)
 
 -- ---- more bytes behind
 
@@ -167,10 +167,10 @@ module _ (p q : List ℕ) where
 -- ---- what a record is
 
 -- a record's 7 bytes and those it counts stand in the part
-pub record-fits : (s : List ℕ) (h : Head) → reading s ≡ Record h → (7 + h .count ≤ length s) × (h .count ≤ 250)
+pub record-fits : (s : List ℕ) (h : Head) → reading s ≡ Record h → (7 + h .count ≤ length s) × (h .count ≤ longestRecord)
 record-fits s h e = of (subst (λ (r : Reading). Seen s r) e (saw s)) refl
   where
-    of : {r : Reading} → Seen s r → r ≡ Record h → (7 + h .count ≤ length s) × (h .count ≤ 250)
+    of : {r : Reading} → Seen s r → r ≡ Record h → (7 + h .count ≤ length s) × (h .count ≤ longestRecord)
     of (first w) e = let z : _≡_ {A = ℕ} 0 1 = cc in absurd (omega arith)
     of (second w) e = let z : _≡_ {A = ℕ} 0 1 = cc in absurd (omega arith)
     of (many w) e = let z : _≡_ {A = ℕ} 0 1 = cc in absurd (omega arith)
@@ -180,7 +180,7 @@ record-fits s h e = of (subst (λ (r : Reading). Seen s r) e (saw s)) refl
         let n : headOf s .count ≡ h .count = ap (λ (x : Head). x .count) d in
         (omega arith, omega (arith, b .few))
 
-module _ (stamp : ℕ) (bytes rest : List ℕ) (small : stamp < 2 ^ 32) (few : length bytes ≤ 250) where
+module _ (stamp : ℕ) (bytes rest : List ℕ) (small : stamp < 2 ^ 32) (few : length bytes ≤ longestRecord) where
   stamp-is : leAt 4 2 (recordOf stamp bytes ++ rest) ≡ stamp
   unfolding recordOf leBytes leAt
   stamp-is = omega arith

@@ -10,6 +10,10 @@ use Rattle.trace.specs.declared.Head.{Head}
 use Rattle.trace.specs.declared.Reading.{Reading}
 use Rattle.trace.specs.declared.Reading.the-variants.{Record, More, Bad}
 
+-- "count (1 byte, 0 to 250)"
+abbrev pub longestRecord : ℕ
+longestRecord = 250
+
 -- another byte than b stands at place k
 unfoldable pub wrongAt : ℕ → ℕ → List ℕ → Bool
 wrongAt k b s = ltb k (length s) && not (eqb (getD s k 0) b)
@@ -23,7 +27,7 @@ unfoldable pub reading : List ℕ → Reading
 reading s =
     cond (wrongAt 0 0x4c s) Bad
     (cond (wrongAt 1 0x4b s) Bad
-    (cond (ltb 250 (headOf s .count)) Bad
+    (cond (ltb longestRecord (headOf s .count)) Bad
     (cond (ltb (length s) (7 + headOf s .count)) More
     (Record (headOf s)))))
 

@@ -9,14 +9,15 @@ use lib.ListN.{replicate}
 use Rattle.crc.specs.Crc.{crcBit, crcBits, crcByte, crcFrom, crcOf}
 use Rattle.wire.specs.Numbers.{leAt, leBytes}
 use Rattle.wire.specs.Layout.{laid}
-use Rattle.wire.specs.Tests.{within, onlyBits, firstFalse}
+use Rattle.ranges.specs.Tests.{within, onlyBits, firstFalse}
 use Rattle.frame.specs.Frame.{intact}
 use Rattle.sheet.specs.Rows.{least}
 use Rattle.settings.specs.Settings.{numbersAt}
 use Rattle.rule.specs.Run.{Item, event, at, wait, late, onward, lastStamp}
 use Rattle.rule.specs.Framing.{front, units}
 use Rattle.rule.specs.Rule.{deal, wholeRun}
-use Rattle.unit.specs.Names.{orderNumber, setBlock, getBlock, orderKind, kindOf, need}
+use Rattle.keyed.specs.Keyed.{valueIn}
+use Rattle.names.specs.Names.{orderNumber, kindOf, kindFrom, kindAt, need}
 use Rattle.unit.specs.Unit.{Event, clock, freshMemory, gets, checked, puts, does, act}
 use Rattle.unit.specs.Protocol.{protocol}
 
@@ -122,7 +123,7 @@ cases =
     ∷ []
 
 pub starred : Each cases
-unfolding crcBit crcBits crcByte crcFrom leAt leBytes laid within onlyBits firstFalse least setBlock getBlock orderKind kindOf need intact gets checked puts does act
+unfolding crcBit crcBits crcByte crcFrom leAt leBytes laid within onlyBits firstFalse least valueIn kindOf kindFrom need intact gets checked puts does act
     wait late onward lastStamp front units deal wholeRun
 starred =
     row refl (row refl (row refl (row refl (row refl
@@ -157,6 +158,6 @@ reports =
     ∷ []
 
 pub reported : Each reports
-unfolding crcBit crcBits crcByte crcFrom leAt leBytes laid within onlyBits firstFalse least setBlock getBlock orderKind kindOf need intact gets checked puts does act
+unfolding crcBit crcBits crcByte crcFrom leAt leBytes laid within onlyBits firstFalse least valueIn kindOf kindFrom need intact gets checked puts does act
     wait late onward lastStamp front units deal wholeRun
 reported = row refl (row refl (row refl (row refl (row refl (row refl (row refl (row refl none)))))))

@@ -5,19 +5,28 @@ use Prim.Native.Nat.{ℕ, _-_, _≤_}
 use lib.ListN.{length, take}
 use lib.Seq.{sets}
 use Rattle.frame.specs.Frame.{framed}
+use Rattle.sheet.specs.Lengths.{longestFrame}
+use Rattle.sheet.specs.Sheet.{getTable}
 use Rattle.sheet.specs.Rows.{rowAt, total}
 use Rattle.sheet.proofs.Laws.{aside-fits, aside-front}
 use Rattle.sheet.proofs.Table.{total-most}
 use Rattle.settings.specs.Settings.{dataAt, numbersAt}
-use Rattle.unit.specs.Unit.{Memory, gets, Judges}
-use Rattle.unit.specs.declared.names.Order.the-variants.{Nothing}
+use Rattle.names.specs.Names.{totalIn}
+use Rattle.names.specs.declared.Order.the-variants.{Nothing}
+use Rattle.names.proofs.Lengths.{get-total}
+use Rattle.unit.specs.Unit.{gets, Judges}
+use Rattle.unit.specs.declared.Memory.{Memory}
 
-module _ (m : Memory) (k n : ℕ) (is : n ≡ total (rowAt k)) (zs section : List ℕ) (room : 48 ≡ length zs) (laid : section ≡ sets zs 0 (dataAt (m .settings) k)) where
+module _ (m : Memory) (k n : ℕ) (looked : n ≡ totalIn getTable k) (zs section : List ℕ) (room : longestFrame ≡ length zs)
+    (laid : section ≡ sets zs 0 (dataAt (m .settings) k)) where
+  is : n ≡ total (rowAt k)
+  is = looked ∙ get-total k
+
   pub section-room : n - 6 ≤ length section
   section-room = aside-fits (rowAt k) (numbersAt (m .settings) k) n is (total-most k) zs section room laid
 
   pub says-got : (name : ℕ) (before after : List ℕ) → after ≡ sets before 0 (framed name (take (n - 6) section))
-      → Judges (gets m name k) before (record { order = Nothing; settings = m .settings; notes = m .notes }) after
+      → Judges (gets m name k) before (record { order = Nothing; memory = m }) after
   unfolding gets
   says-got name before after e =
       record {

@@ -1,52 +1,46 @@
 -- What the settings keep: only an accepted set alters them, and a block keeps its data until the next accepted set of it. Assumes nothing.
-use mathlib.Core.Path.{_≡_, refl, sym, ap, _∙_}
-use mathlib.Core.Bool.{Bool, true, false}
+use mathlib.Core.Path.{_≡_, refl, sym, ap, subst, _∙_}
+use mathlib.Core.Bool.{Bool, true, false, not}
 use mathlib.Core.List.{List, [], _∷_}
 use Prim.Native.Nat.{ℕ}
 use native.Mathlib.Omega.{arith}
-use lib.Dec.{eqb}
+use lib.Dec.{T, eqb, T-not}
 use lib.ListN.{getD}
 use borrow.Author.Tests.{eqb-true, eqb-false}
 use Rattle.wire.specs.Numbers.{leBytes}
 use Rattle.frame.specs.Frame.{dataIn, intact}
 use Rattle.sheet.specs.Names.{named}
-use Rattle.sheet.specs.Sheet.{Row}
-use Rattle.sheet.specs.Rows.{rowAt}
-use Rattle.sheet.proofs.Table.{each-row}
+use Rattle.keyed.proofs.Values.{value-all}
+use Rattle.sheet.specs.Sheet.{setTable}
 use Rattle.settings.specs.Settings.{dataAt, putAt, badAt}
 use Rattle.settings.proofs.Keep.{get-other}
 use Rattle.rule.specs.Framing.{Token, whole, lost, seen}
 use Rattle.rule.specs.Rule.{Said, deal}
-use Rattle.rule.proofs.Choice.{eitherBy}
-use Rattle.unit.specs.Names.{kindOf, nameOf}
-use Rattle.unit.specs.Unit.{Memory, Event, gets, stored, does, act}
+use Rattle.names.specs.Names.{kindAt, nameOf, nameIn, numbersOf, namesOf}
+use Rattle.names.specs.declared.Order.{Order}
+use Rattle.names.specs.declared.Kind.{Kind}
+use Rattle.names.specs.declared.Kind.the-variants.{Zero, Set, Get, Gives, Unknown}
+use Rattle.names.proofs.Named.{set-unit}
+use Rattle.unit.specs.Unit.{Event, gets, stored, does, act}
 use Rattle.unit.specs.Protocol.{protocol}
-use Rattle.unit.specs.declared.names.Order.{Order}
-use Rattle.unit.specs.declared.names.Kind.{Kind}
-use Rattle.unit.specs.declared.names.Kind.the-variants.{Set, Get, Gives, Unknown}
+use Rattle.unit.specs.declared.Memory.{Memory}
 use Rattle.unit.proofs.Sets.{puts-damaged, puts-refused, puts-stored}
-use Rattle.unit.proofs.Replies.{act-zero, act-named}
-use Rattle.unit.proofs.Named.{set-named}
-
--- a unit with a name of that kind
-pub act-kind : (m : Memory) (u : List ℕ) (κ : Kind) → (getD u 0 0 ≡ 0 → ⊥) → kindOf (nameOf u) ≡ κ → act m (whole u) ≡ does m u κ
-act-kind m u κ s e = act-named m u s ∙ ap (does m u) e
+use Rattle.unit.proofs.Replies.{act-kind}
 
 -- ---- accepted sets
 
 -- the unit u, met with the memory m, is an accepted set of block k: "Otherwise all fields are stored"
 pub record Accepts (m : Memory) (u : List ℕ) (k : ℕ) : Type 0 where
-  pub starts : getD u 0 0 ≡ 0 → ⊥
-  pub names : kindOf (nameOf u) ≡ Set k
+  pub kind : kindAt u ≡ Set k
   pub crc : intact u ≡ true
   pub good : badAt (putAt (m .settings) k (dataIn u)) k ≡ 0
 
 -- it is stored, "and the set name is the reply"
-pub accepted : (m : Memory) (u : List ℕ) (k : ℕ) → Accepts m u k → act m (whole u) ≡ stored m (rowAt k .setName) k (dataIn u)
+pub accepted : (m : Memory) (u : List ℕ) (k : ℕ) → Accepts m u k → act m (whole u) ≡ stored m (nameIn setTable k) k (dataIn u)
 unfolding does
 accepted m u k a =
-    act-kind m u (Set k) (a .starts) (a .names) ∙ puts-stored m k u (a .crc) (a .good)
-    ∙ ap (λ (n : ℕ). stored m n k (dataIn u)) (set-named (nameOf u) k (a .names))
+    act-kind m u (Set k) (a .kind) ∙ puts-stored m k u (a .crc) (a .good)
+    ∙ ap (λ (n : ℕ). stored m n k (dataIn u)) (set-unit u k (a .kind))
 
 -- WHAT A UNIT DOES TO THE SETTINGS: it is an accepted set, or it alters none
 pub data Ends (m : Memory) (u : List ℕ) : Type 0 where
@@ -58,24 +52,22 @@ module _ (m : Memory) (u : List ℕ) where
   same : (a : Said Order Memory) → act m (whole u) ≡ a → a .next .settings ≡ m .settings → Ends m u
   same a e k = keeps (ap (λ (x : Said Order Memory). x .next .settings) e ∙ k)
 
-  module _ (starts : getD u 0 0 ≡ 0 → ⊥) where
-    set-ends : (k : ℕ) (b c : Bool) → kindOf (nameOf u) ≡ Set k → intact u ≡ b → eqb (badAt (putAt (m .settings) k (dataIn u)) k) 0 ≡ c → Ends m u
-    unfolding does
-    set-ends k true true e i g = accepts k (record { starts = starts; names = e; crc = i; good = eqb-true _ 0 g })
-    set-ends k true false e i g = same _ (act-kind m u (Set k) starts e ∙ puts-refused m k u i (eqb-false _ 0 g)) refl
-    set-ends k false c e i g = same _ (act-kind m u (Set k) starts e ∙ puts-damaged m k u i) refl
+  set-ends : (k : ℕ) (b c : Bool) → kindAt u ≡ Set k → intact u ≡ b → eqb (badAt (putAt (m .settings) k (dataIn u)) k) 0 ≡ c → Ends m u
+  unfolding does
+  set-ends k true true e i g = accepts k (record { kind = e; crc = i; good = eqb-true _ 0 g })
+  set-ends k true false e i g = same _ (act-kind m u (Set k) e ∙ puts-refused m k u i (eqb-false _ 0 g)) refl
+  set-ends k false c e i g = same _ (act-kind m u (Set k) e ∙ puts-damaged m k u i) refl
 
-    kind-ends : (κ : Kind) → kindOf (nameOf u) ≡ κ → Ends m u
-    unfolding does gets
-    kind-ends (Set k) e = set-ends k (intact u) _ e refl refl
-    kind-ends (Get k) e = same _ (act-kind m u (Get k) starts e) refl
-    kind-ends (Gives o) e = same _ (act-kind m u (Gives o) starts e) refl
-    kind-ends Unknown e = same _ (act-kind m u Unknown starts e) refl
+  kind-ends : (κ : Kind) → kindAt u ≡ κ → Ends m u
+  unfolding does gets
+  kind-ends Zero e = same _ (act-kind m u Zero e) refl
+  kind-ends (Set k) e = set-ends k (intact u) _ e refl refl
+  kind-ends (Get k) e = same _ (act-kind m u (Get k) e) refl
+  kind-ends (Gives o) e = same _ (act-kind m u (Gives o) e) refl
+  kind-ends Unknown e = same _ (act-kind m u Unknown e) refl
 
   pub unit-ends : Ends m u
-  unit-ends =
-      eitherBy (λ (_ : Bool). Ends m u) (eqb (getD u 0 0) 0) true false
-      (λ p. same _ (act-zero m u (eqb-true _ 0 p)) refl) (λ p. kind-ends (eqb-false _ 0 p) (kindOf (nameOf u)) refl)
+  unit-ends = kind-ends (kindAt u) refl
 
 -- ---- DEMAND 1: "A command refused on the wire (errc, errd, errv) alters no setting"
 
@@ -91,11 +83,11 @@ refused-first reply (errc e) = ap (λ (r : List ℕ). getD r 0 0) e
 refused-first reply (errd e) = ap (λ (r : List ℕ). getD r 0 0) e
 refused-first reply (errv e) = ap (λ (r : List ℕ). getD r 0 0) e
 
-set-first : (k : ℕ) → getD (leBytes 4 (rowAt k .setName)) 0 0 ≡ 101 → ⊥
+set-first : (k : ℕ) → getD (leBytes 4 (nameIn setTable k)) 0 0 ≡ 101 → ⊥
 unfolding leBytes
-set-first k =
-    each-row (λ (r : Row). getD (leBytes 4 (r .setName)) 0 0 ≡ 101 → ⊥) k
-    (λ e. omega arith) (λ e. omega arith) (λ e. omega arith) (λ e. omega arith) (λ e. omega arith) (λ e. omega arith) (λ e. omega arith) (λ e. omega arith)
+set-first k e =
+    T-not (eqb (getD (leBytes 4 (nameIn setTable k)) 0 0) 101)
+    (value-all (λ n. not (eqb (getD (leBytes 4 n) 0 0) 101)) k 0 (numbersOf setTable) (namesOf setTable) tt tt) (subst (λ (b : ℕ). T (eqb b 101)) (sym e) tt)
 
 pub refused-keeps : (m : Memory) (u : List ℕ) → Refused (act m (whole u) .reply) → act m (whole u) .next .settings ≡ m .settings
 refused-keeps m u r = by (unit-ends m u)

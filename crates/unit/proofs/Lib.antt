@@ -1,10 +1,7 @@
 pub mod Sets
 pub mod Gets
-pub mod Need
 pub mod Replies
 pub mod Sound
-pub mod Clock
-pub mod Named
 pub mod Kept
 pub mod Runs
 pub mod Cases

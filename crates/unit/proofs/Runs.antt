@@ -6,6 +6,7 @@ use native.Mathlib.Omega.{arith}
 use lib.ListN.{length, getD, length-take, length-drop}
 use Rattle.wire.specs.Layout.{sum}
 use Rattle.frame.specs.Frame.{framed, dataIn}
+use Rattle.sheet.specs.Sheet.{getTable}
 use Rattle.sheet.specs.Rows.{rowAt, widths, total, canonical}
 use Rattle.settings.specs.Settings.{dataAt}
 use Rattle.settings.proofs.Keep.{get-same, bad-put}
@@ -14,26 +15,29 @@ use Rattle.rule.specs.Framing.{Token, whole, unitsOf}
 use Rattle.rule.specs.Rule.{Said, deal, wholeRun}
 use Rattle.rule.proofs.Said.{deal-append}
 use Rattle.rule.proofs.Whole.{part-bytes, whole-long, whole-bytes}
-use Rattle.unit.specs.Names.{kindOf, nameOf, span, need}
-use Rattle.unit.specs.Unit.{Memory, Event, gets, does, act}
+use Rattle.names.specs.Names.{kindAt, nameOf, nameIn, span, need}
+use Rattle.names.specs.declared.Order.{Order}
+use Rattle.names.specs.declared.Kind.the-variants.{Get}
+use Rattle.names.proofs.Lengths.{set-total}
+use Rattle.names.proofs.Need.{need-kind, need-law}
+use Rattle.names.proofs.Named.{get-unit}
+use Rattle.unit.specs.Unit.{Event, gets, does, act}
 use Rattle.unit.specs.Protocol.{protocol}
-use Rattle.unit.specs.declared.names.Order.{Order}
-use Rattle.unit.specs.declared.names.Kind.the-variants.{Get}
-use Rattle.unit.proofs.Need.{need-span, need-four, need-law}
-use Rattle.unit.proofs.Named.{get-named}
-use Rattle.unit.proofs.Kept.{act-kind, Accepts, accepted, Without, kept}
+use Rattle.unit.specs.declared.Memory.{Memory}
+use Rattle.unit.proofs.Replies.{act-kind}
+use Rattle.unit.proofs.Kept.{Accepts, accepted, Without, kept}
 
 -- ---- gets
 
 -- "Get: reply the get name, data, CRC."
 abbrev pub getReply : ℕ → List ℕ → List ℕ
-getReply k d = framed (rowAt k .getName) d
+getReply k d = framed (nameIn getTable k) d
 
 -- a get of block k sends what the block holds, and alters nothing
-pub got : (m : Memory) (g : List ℕ) (k : ℕ) → (getD g 0 0 ≡ 0 → ⊥) → kindOf (nameOf g) ≡ Get k
+pub got : (m : Memory) (g : List ℕ) (k : ℕ) → kindAt g ≡ Get k
     → act m (whole g) ≡ record { reply = getReply k (dataAt (m .settings) k); orders = []; next = m }
 unfolding does gets
-got m g k s e = act-kind m g (Get k) s e ∙ ap (λ (n : ℕ). gets m n k) (get-named (nameOf g) k e)
+got m g k e = act-kind m g (Get k) e ∙ ap (λ (n : ℕ). gets m n k) (get-unit g k e)
 
 -- ---- DEMAND 2: "After an accepted set, the get of that block returns the same fields, reserved bytes zero, until the next accepted set of that block"
 
@@ -52,45 +56,45 @@ pub held-after-set : (m : Memory) (u : List ℕ) (k : ℕ) (ks : List (Token Eve
 held-after-set m u k ks b l a w = kept k ks (act m (whole u) .next) w ∙ set-leaves m u k b l a
 
 pub get-after-set : (m : Memory) (u : List ℕ) (k : ℕ) (ks : List (Token Event)) (g : List ℕ) → ((i : ℕ) → getD u i 0 < 256) → length u ≡ total (rowAt k)
-    → Accepts m u k → Without k (act m (whole u) .next) ks → (getD g 0 0 ≡ 0 → ⊥) → kindOf (nameOf g) ≡ Get k
+    → Accepts m u k → Without k (act m (whole u) .next) ks → kindAt g ≡ Get k
     → act (deal protocol (act m (whole u) .next) ks .next) (whole g) .reply ≡ getReply k (canonical (rowAt k) (dataIn u))
-get-after-set m u k ks g b l a w s e =
-    ap (λ (x : Said Order Memory). x .reply) (got (deal protocol (act m (whole u) .next) ks .next) g k s e)
+get-after-set m u k ks g b l a w e =
+    ap (λ (x : Said Order Memory). x .reply) (got (deal protocol (act m (whole u) .next) ks .next) g k e)
     ∙ ap (getReply k) (held-after-set m u k ks b l a w)
 
 -- ---- the same over a whole run
 
 -- a get in a run: behind what is said before it stands its reply, and behind that what is said after it, from the same memory
 pub run-got : (m₀ : Memory) (t : ℕ) (r : List (Item Event)) (before after : List (Token Event)) (g : List ℕ) (k : ℕ)
-    → unitsOf (protocol .cuts) (protocol .need) r .tokens ≡ before ++ (whole g ∷ after) → (getD g 0 0 ≡ 0 → ⊥) → kindOf (nameOf g) ≡ Get k
+    → unitsOf (protocol .cuts) (protocol .need) r .tokens ≡ before ++ (whole g ∷ after) → kindAt g ≡ Get k
     → let x = deal protocol m₀ before in
     wholeRun protocol m₀ t r .reply ≡ x .reply ++ (getReply k (dataAt (x .next .settings) k) ++ deal protocol (x .next) after .reply)
 unfolding wholeRun deal
-run-got m₀ t r before after g k cut s e =
+run-got m₀ t r before after g k cut e =
     let x = deal protocol m₀ before in
     ap (λ (ks : List (Token Event)). deal protocol m₀ ks .reply) cut
     ∙ ap (λ (y : Said Order Memory). y .reply) (deal-append protocol before (whole g ∷ after) m₀)
-    ∙ ap (λ (y : Said Order Memory). x .reply ++ (y .reply ++ deal protocol (y .next) after .reply)) (got (x .next) g k s e)
+    ∙ ap (λ (y : Said Order Memory). x .reply ++ (y .reply ++ deal protocol (y .next) after .reply)) (got (x .next) g k e)
 
 -- "Set: the unit is the total length of its block"
 accepts-long : (m : Memory) (u : List ℕ) (k : ℕ) → Accepts m u k → need u ≡ length u → length u ≡ total (rowAt k)
-accepts-long m u k a e = sym e ∙ need-span u (a .starts) (omega (arith, need-four u (a .starts))) ∙ ap span (a .names)
+accepts-long m u k a e = sym e ∙ need-kind u (omega arith) ∙ ap span (a .kind) ∙ set-total k
 
 -- in a run of bytes: the set u, then the get g of its block with no accepted set of the block between them
 pub run-get-after-set : (m₀ : Memory) (t : ℕ) (r : List (Item Event)) (before between after : List (Token Event)) (u g : List ℕ) (k : ℕ)
     → ((i : ℕ) → getD (bytes r) i 0 < 256)
     → unitsOf (protocol .cuts) (protocol .need) r .tokens ≡ before ++ (whole u ∷ between ++ (whole g ∷ after))
     → let m = deal protocol m₀ before .next in Accepts m u k → Without k (act m (whole u) .next) between
-    → (getD g 0 0 ≡ 0 → ⊥) → kindOf (nameOf g) ≡ Get k
+    → kindAt g ≡ Get k
     → let x = deal protocol m₀ (before ++ (whole u ∷ between)) in
     wholeRun protocol m₀ t r .reply ≡ x .reply ++ (getReply k (canonical (rowAt k) (dataIn u)) ++ deal protocol (x .next) after .reply)
 unfolding deal
-run-get-after-set m₀ t r before between after u g k b cut a w s e =
+run-get-after-set m₀ t r before between after u g k b cut a w e =
     let m = deal protocol m₀ before .next in
     let x = deal protocol m₀ (before ++ (whole u ∷ between)) in
     let behind = between ++ (whole g ∷ after) in
     let low = whole-bytes (protocol .cuts) (protocol .need) need-law r before behind u cut b in
     let long = accepts-long m u k a (whole-long (protocol .cuts) (protocol .need) need-law r before behind u cut) in
     let reached = ap (λ (y : Said Order Memory). dataAt (y .next .settings) k) (deal-append protocol before (whole u ∷ between) m₀) in
-    run-got m₀ t r (before ++ (whole u ∷ between)) after g k (cut ∙ sym (append-assoc before (whole u ∷ between) (whole g ∷ after))) s e
+    run-got m₀ t r (before ++ (whole u ∷ between)) after g k (cut ∙ sym (append-assoc before (whole u ∷ between) (whole g ∷ after))) e
     ∙ ap (λ (d : List ℕ). x .reply ++ (getReply k d ++ deal protocol (x .next) after .reply)) (reached ∙ held-after-set m u k between low long a w)

@@ -14,12 +14,12 @@ use Rattle.sheet.specs.Names.{named}
 use Rattle.settings.specs.declared.Settings.{Settings}
 use Rattle.settings.specs.Settings.{putAt, badAt}
 use Rattle.rule.specs.Rule.{Said}
-use Rattle.unit.specs.Names.{nameOf}
-use Rattle.unit.specs.Unit.{Memory, flag, puts, checked, damaged, outOfRange, stored, Judges}
-use Rattle.unit.specs.declared.Notes.{Notes}
+use Rattle.names.specs.Names.{nameOf}
+use Rattle.names.specs.declared.Order.{Order}
+use Rattle.names.specs.declared.Order.the-variants.{Nothing}
+use Rattle.unit.specs.Unit.{flag, puts, checked, damaged, outOfRange, stored, Judges}
+use Rattle.unit.specs.declared.Memory.{Memory}
 use Rattle.unit.specs.declared.Judged.{Judged}
-use Rattle.unit.specs.declared.names.Order.{Order}
-use Rattle.unit.specs.declared.names.Order.the-variants.{Nothing}
 
 -- an answer that is another's
 pub answered-as : {a : Said Order Memory} {before after : List ℕ} {d e : Judged} → d ≡ e → Judges a before e after → Judges a before d after
@@ -51,14 +51,14 @@ module _ (m : Memory) (k : ℕ) (u : List ℕ) where
 
   -- the code's three answers
   module _ (before after : List ℕ) where
-    pub says-damaged : (n : Notes) → intact u ≡ false → n ≡ flag 2 (m .notes) → after ≡ sets before 0 (leBytes 4 (named "errd"))
-        → Judges (puts m k u) before (record { order = Nothing; settings = m .settings; notes = n }) after
+    pub says-damaged : (n : Memory) → intact u ≡ false → n ≡ flag 2 m → after ≡ sets before 0 (leBytes 4 (named "errd"))
+        → Judges (puts m k u) before (record { order = Nothing; memory = n }) after
     says-damaged n e f r = rw (puts-damaged e, f) (record { result = refl; reply = r })
 
     pub says-refused : (n : ℕ) → intact u ≡ true → n ≡ bad → (n ≡ 0 → ⊥) → after ≡ sets before 0 (leBytes 4 (named "errv"))
-        → Judges (puts m k u) before (record { order = Nothing; settings = m .settings; notes = record { flags = bitOr (m .notes .flags) 4; block = k; field = n } }) after
+        → Judges (puts m k u) before (record { order = Nothing; memory = record { settings = m .settings; notes = record { flags = bitOr (m .notes .flags) 4; block = k; field = n } } }) after
     says-refused n e f h r = rw (puts-refused e (λ z. h (f ∙ z)), f) (record { result = refl; reply = r })
 
     pub says-stored : (next : Settings) (n : ℕ) → intact u ≡ true → next ≡ putAt (m .settings) k (dataIn u) → n ≡ bad → n ≡ 0 → after ≡ sets before 0 (leBytes 4 (nameOf u))
-        → Judges (puts m k u) before (record { order = Nothing; settings = next; notes = m .notes }) after
+        → Judges (puts m k u) before (record { order = Nothing; memory = record { settings = next; notes = m .notes } }) after
     says-stored next n e is f h r = rw (puts-stored e (sym f ∙ h), is) (record { result = refl; reply = r })

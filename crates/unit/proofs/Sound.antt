@@ -15,18 +15,20 @@ use Rattle.settings.proofs.Keep.{store-other, all-good, good-all, good-fresh}
 use Rattle.rule.specs.Run.{at}
 use Rattle.rule.specs.Framing.{Token, whole, lost, seen}
 use Rattle.rule.specs.Rule.{Said, State}
+use Rattle.rule.specs.Step.{steps}
 use Rattle.rule.specs.Calls.{call}
 use Rattle.rule.specs.Facts.{Begun}
 use Rattle.rule.proofs.Calls.{call-steps}
 use Rattle.rule.proofs.Progress.{steps-begun, steps-keep}
-use Rattle.unit.specs.Names.{kindOf, nameOf, need}
-use Rattle.unit.specs.Unit.{Memory, Event, does, gets, act}
+use Rattle.names.specs.Names.{kindAt, need}
+use Rattle.names.specs.declared.Order.{Order}
+use Rattle.names.specs.declared.Kind.{Kind}
+use Rattle.names.specs.declared.Kind.the-variants.{Zero, Set, Get, Gives, Unknown}
+use Rattle.names.proofs.Need.{need-some, need-law}
+use Rattle.unit.specs.Unit.{Event, does, gets, act}
+use Rattle.unit.specs.declared.Memory.{Memory}
 use Rattle.unit.specs.Protocol.{protocol, soundMemory, begun, soundState, freshState}
-use Rattle.unit.proofs.Need.{need-some, need-law}
-use Rattle.unit.proofs.Replies.{puts-cases, act-cases}
-use Rattle.unit.specs.declared.names.Order.{Order}
-use Rattle.unit.specs.declared.names.Kind.{Kind}
-use Rattle.unit.specs.declared.names.Kind.the-variants.{Set, Get, Gives, Unknown}
+use Rattle.unit.proofs.Replies.{puts-cases}
 
 -- ---- the tests of soundness, as facts
 
@@ -85,6 +87,7 @@ module _ (m : Memory) (sound : SoundMemory m) where
 
   does-sound : (u : List ℕ) (k : Kind) → Keeps (does m u k)
   unfolding does gets
+  does-sound u Zero = sound
   does-sound u (Set k) =
       puts-cases Keeps m k u (record { flags = flagged 2 (omega arith); good = sound .good }) (record { flags = flagged 4 (omega arith); good = sound .good })
       (λ z. record { flags = sound .flags; good = good-stored (m .settings) k _ z (sound .good) })
@@ -95,7 +98,7 @@ module _ (m : Memory) (sound : SoundMemory m) where
 -- each token keeps a sound memory sound, whatever numbers it is made of
 pub act-sound : (m : Memory) (k : Token Event) → SoundMemory m → SoundMemory (act m k .next)
 unfolding act
-act-sound m (whole u) h = act-cases m u (λ (a : Said Order Memory). SoundMemory (a .next)) h (does-sound m h u (kindOf (nameOf u)))
+act-sound m (whole u) h = does-sound m h u (kindAt u)
 act-sound m (lost u) h = h
 act-sound m (seen e) h = h
 
@@ -104,9 +107,13 @@ act-sound m (seen e) h = h
 pub fresh-sound : soundState freshState ≡ true
 fresh-sound = sound-from freshState (need-some []) (record { flags = omega arith; good = good-fresh })
 
+-- bytes that share a stamp keep a sound state sound
+pub steps-sound : (s : State Memory) (t : ℕ) (u : List ℕ) → soundState s ≡ true → soundState (steps protocol s (at t u) .next) ≡ true
+steps-sound s t u h =
+    sound-from _ (steps-begun protocol need-law t u s (sound-begun s h)) (steps-keep protocol SoundMemory act-sound (at t u) s (sound-memory s h))
+
 -- A CALL KEEPS A SOUND STATE SOUND
-pub call-sound : (s : State Memory) (t room : ℕ) (piece : List ℕ) → soundState s ≡ true → soundState (call protocol s t room piece .said .next) ≡ true
-call-sound s t room piece h =
-    let taken = take (call protocol s t room piece .taken) piece in
-    rw (call-steps protocol piece s t room .same)
-    (sound-from _ (steps-begun protocol need-law t taken s (sound-begun s h)) (steps-keep protocol SoundMemory act-sound (at t taken) s (sound-memory s h)))
+pub call-sound : (verdict : ℕ) (s : State Memory) (t room : ℕ) (piece : List ℕ) → soundState s ≡ true
+    → soundState (call protocol verdict s t room piece .said .next) ≡ true
+call-sound verdict s t room piece h =
+    rw (call-steps protocol verdict piece s t room .same) (steps-sound s t (take (call protocol verdict s t room piece .taken) piece) h)

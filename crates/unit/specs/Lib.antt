@@ -1,4 +1,2 @@
-pub mod Names
 pub mod Unit
 pub mod Protocol
-pub mod Clock

@@ -7,9 +7,11 @@ use lib.ListN.{length}
 use Rattle.settings.specs.Settings.{allGood}
 use Rattle.rule.specs.Run.{late}
 use Rattle.rule.specs.Rule.{State, Protocol}
-use Rattle.unit.specs.Names.{need}
-use Rattle.unit.specs.Unit.{Memory, Event, clock, act, freshMemory}
-use Rattle.unit.specs.declared.names.Order.{Order}
+use Rattle.sheet.specs.Lengths.{longestFrame, longestPiece}
+use Rattle.names.specs.Names.{need}
+use Rattle.names.specs.declared.Order.{Order}
+use Rattle.unit.specs.Unit.{Event, clock, act, freshMemory}
+use Rattle.unit.specs.declared.Memory.{Memory}
 
 -- 02, P3: "If something is unfinished and the wait since the last byte exceeds 400, it is dropped": the last byte at that stamp
 abbrev pub cutBy : ℕ → Event → Bool
@@ -29,7 +31,7 @@ unfoldable pub soundState : State Memory → Bool
 soundState s = cond (begun (s .line .unfinished)) (soundMemory (s .memory)) false
 
 abbrev pub protocol : Protocol Event Order Memory
-protocol = record { cuts = cutBy; need = need; act = act; longest = 250; least = 48; sound = soundState }
+protocol = record { cuts = cutBy; need = need; act = act; longestPiece = longestPiece; leastRoom = longestFrame }
 
 -- "nothing is unfinished, the last stamp is 0"
 abbrev pub freshState : State Memory

@@ -6,7 +6,7 @@ use native.Mathlib.Nat.{add-assoc, add-suc, pow-succ'}
 use native.Mathlib.Numerals.{add-one}
 use native.Mathlib.Omega.{arith}
 use lib.ListN.{length, getD, take, drop, replicate}
-use lib.Seq.{getD-append-add, getD-take, drop-cons}
+use lib.Seq.{getD-append-add, getD-take, getD-drop, drop-cons}
 use Rattle.wire.specs.Numbers.{leAt, leBytes}
 
 pub length-leBytes : (w v : ℕ) → length (leBytes w v) ≡ w
@@ -53,6 +53,12 @@ pub leAt-append : (w p : ℕ) (a s : List ℕ) → leAt w (length a + p) (a ++ s
 unfolding leAt
 leAt-append zero p a s = refl
 leAt-append (suc w) p a s = rw (getD-append-add, add-assoc, leAt-append w (p + 1) a s)
+
+-- from a place on
+pub leAt-drop : (w p i : ℕ) (s : List ℕ) → leAt w p (drop i s) ≡ leAt w (i + p) s
+unfolding leAt
+leAt-drop zero p i s = refl
+leAt-drop (suc w) p i s = rw (getD-drop i s p 0, add-assoc, leAt-drop w (p + 1) i s)
 
 -- what was written is read
 pub leAt-leBytes : (w v : ℕ) (r : List ℕ) → v < 256 ^ w → leAt w 0 (leBytes w v ++ r) ≡ v

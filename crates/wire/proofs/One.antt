@@ -13,11 +13,6 @@ use Rattle.wire.proofs.u16_of.Reads as u16-of
 use Rattle.wire.proofs.u32_of.Reads as u32-of
 use Rattle.wire.proofs.f32_of.Reads as f32-of
 use Rattle.wire.proofs.bits_of.Reads as bits-of
-use Rattle.wire.proofs.is_within.Reads as is-within
-use Rattle.wire.proofs.is_signed_within.Reads as is-signed-within
-use Rattle.wire.proofs.is_finite.Reads as is-finite
-use Rattle.wire.proofs.has_only_bits.Reads as has-only-bits
-use Rattle.wire.proofs.first_false.Reads as first-false
 use Rattle.wire.proofs.put.Reads as put
 use Rattle.wire.proofs.lay.Reads as lay
 use Rattle.wire.proofs.copy.Reads as copy
@@ -57,21 +52,6 @@ f32-of-one κs a r r' s s' p q = p ∙ sym q
 
 pub bits-of-one : Leaves bits-of.Post (λ κs r s. r)
 bits-of-one κs a r r' s s' p q = p ∙ sym q
-
-pub is-within-one : Leaves is-within.Post (λ κs r s. r)
-is-within-one κs a r r' s s' p q = p ∙ sym q
-
-pub is-signed-within-one : Leaves is-signed-within.Post (λ κs r s. r)
-is-signed-within-one κs a r r' s s' p q = p ∙ sym q
-
-pub is-finite-one : Leaves is-finite.Post (λ κs r s. r)
-is-finite-one κs a r r' s s' p q = p ∙ sym q
-
-pub has-only-bits-one : Leaves has-only-bits.Post (λ κs r s. r)
-has-only-bits-one κs a r r' s s' p q = p ∙ sym q
-
-pub first-false-one : Leaves first-false.Post (λ κs r s. r)
-first-false-one κs a r r' s s' p q = p ∙ sym q
 
 pub put-one : Leaves put.Post (λ κs r s. s .0 .now)
 put-one κs a r r' s s' p q = p ∙ sym q

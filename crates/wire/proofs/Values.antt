@@ -15,8 +15,8 @@ use lib.Pow.{pow-pos}
 use mir.Syntax.{Width, w16}
 use mir.Val.{Fits, toZ, ofZ, sel, bits, hbits}
 use mir.ValLaws.{toZ-pos, toZ-ofZ, half-full, pow-bits}
-use Rattle.wire.specs.Tests.{signedWithin, finite}
-use Rattle.wire.proofs.Tests.{or-no}
+use Rattle.ranges.specs.Tests.{signedWithin, finite}
+use Rattle.ranges.proofs.Tests.{or-no}
 
 -- what the machine reads back of a signed number that fits is the number
 pub back : (w : Width) (z : ℤ) → mag z < 2 ^ hbits w → toZ w (ofZ w z) ≡ z

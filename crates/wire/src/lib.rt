@@ -1,4 +1,4 @@
-// Numbers on the wire, low byte first: read and written at any place of a slice, laid one behind the other, tested. Every function answers
+// Numbers on the wire, low byte first: read and written at any place of a slice, laid one behind the other. Every function answers
 // every input: a byte past the end reads as 0, and a store past the end is none.
 ghost use mathlib.Core.Path.{_≡_};
 ghost use Prim.Native.Nat.{_+_, _*_, min};
@@ -9,7 +9,6 @@ ghost use mir.Syntax.{w16, w32};
 ghost use mir.Val.{toZ, ofZ};
 ghost use Rattle.wire.specs.Numbers.{leAt, leBytes};
 ghost use Rattle.wire.specs.Layout.{laid};
-ghost use Rattle.wire.specs.Tests.{within, signedWithin, finite, onlyBits, firstFalse};
 
 // ---- reading
 
@@ -139,51 +138,6 @@ pub fn bits_of(x: f32) -> u32
     if x != x { 2143289344 } else { f32::to_bits(x) }
 }
 
-// ---- tests of a number as it stands on the wire
-
-pub fn is_within(lo: u64, hi: u64, n: u64) -> bool
-    ensures { λ r. ⌜ r ≡ within lo hi n ⌝ }
-{
-    lo <= n && n <= hi
-}
-
-// A signed 16-bit number from -k to k.
-pub fn is_signed_within(k: u16, n: u64) -> bool
-    ensures { λ r. ⌜ r ≡ signedWithin k n ⌝ }
-{
-    let top = 65536 - k as u64;
-    n <= k as u64 || top <= n
-}
-
-// A 32-bit float whose exponent bits are not all ones.
-pub fn is_finite(n: u64) -> bool
-    ensures { λ r. ⌜ r ≡ finite n ⌝ }
-{
-    n % 2147483648 / 8388608 != 255
-}
-
-// A number with no bit outside the mask.
-pub fn has_only_bits(mask: u64, n: u64) -> bool
-    ensures { λ r. ⌜ r ≡ onlyBits mask n ⌝ }
-{
-    n & mask == n
-}
-
-// The number, from 1, of the first test that failed, or 0.
-pub fn first_false(tests: &[bool]) -> usize
-    ensures { λ r. ⌜ r ≡ firstFalse 1 (now (tests .entry)) ⌝ }
-{
-    let mut k = 0;
-    while k < tests.len() {
-        let passed = tests[k];
-        k += 1;
-        if !passed {
-            return k;
-        }
-    }
-    0
-}
-
 // ---- writing
 
 // The w bytes of v from a place on: one writer for every width.
@@ -228,7 +182,7 @@ pub fn lay(out: &mut [u8], ws: &[usize], vs: &[u64])
     }
 }
 
-fn least(a: usize, b: usize) -> usize
+fn smaller(a: usize, b: usize) -> usize
     ensures { λ r. ⌜ r ≡ min a b ⌝ }
 {
     if a < b { a } else { b }
@@ -241,7 +195,7 @@ pub fn copy(out: &mut [u8], at: usize, part: &[u8])
     if out.len() <= at {
         return;
     }
-    let n = least(part.len(), out.len() - at);
+    let n = smaller(part.len(), out.len() - at);
     let mut k = 0;
     while k < n {
         out[at + k] = part[k];

@@ -1,6 +1,6 @@
 -- `bench::call_once` meets its contract. Assumes nothing.
 use borrow.Author.Needs.{needs}
-use Rattle.trace.proofs.Texts.{text-front}
+use Rattle.text.proofs.Texts.{text-front}
 use Rattle.bench.proofs.Answers.{written-fits, written-front}
 use Rattle.bench.proofs.call_once.Statement.{statement}
 use Rattle.bench.proofs.call_once.Tie as tie

@@ -7,7 +7,7 @@ use lib.ListN.{length, drop, drop-of-length-le}
 use Rattle.rule.specs.Run.{at as stamped}
 use Rattle.rule.specs.Step.{steps}
 use Rattle.unit.specs.Protocol.{protocol}
-use Rattle.receiver.specs.State.{stateOf}
+use Rattle.state.specs.State.{stateOf}
 use Rattle.bench.proofs.Rest.{Leads, arrived, Turn, turn}
 use Rattle.bench.proofs.offer.Statement.{statement}
 use Rattle.bench.proofs.offer.Tie as tie

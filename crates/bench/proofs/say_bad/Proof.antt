@@ -1,6 +1,6 @@
 -- `bench::say_bad` is safe and ends. Assumes nothing.
 use borrow.Author.Needs.{needs}
-use Rattle.trace.proofs.Texts.{text-front}
+use Rattle.text.proofs.Texts.{text-front}
 use Rattle.bench.proofs.say_bad.Statement.{statement}
 use Rattle.bench.proofs.say_bad.Tie as tie
 

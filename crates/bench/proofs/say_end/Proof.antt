@@ -1,6 +1,6 @@
 -- `bench::say_end` is safe and ends. Assumes nothing.
 use borrow.Author.Needs.{needs}
-use Rattle.trace.proofs.Texts.{text-front}
+use Rattle.text.proofs.Texts.{text-front}
 use Rattle.bench.proofs.say_end.Statement.{statement}
 use Rattle.bench.proofs.say_end.Tie as tie
 

@@ -1,10 +1,10 @@
--- `board::rivertosku_report_clock` meets its contract: `report_clock`'s own answer. Assumes nothing.
+-- `board::rivertosku_report_clock` meets its contract: `report_time`'s own answer. Assumes nothing.
 use borrow.Author.Needs.{needs}
 use Rattle.board.proofs.rivertosku_report_clock.Statement.{statement}
 use Rattle.board.proofs.rivertosku_report_clock.Tie as tie
 
 returns : tie.Need-returns
-returns c = c .report-clock .ensures
+returns c = c .report-time .ensures
 
 pub rivertosku-report-clock-spec : {M : Type 1} → statement M
 rivertosku-report-clock-spec = tie.close (tie.spec (λ c κs. search needs) returns)

@@ -2,28 +2,30 @@
 use mathlib.Core.Path.{_≡_, ap, _∙_}
 use Prim.Native.Nat.{ℕ}
 use borrow.Author.Needs.{needs}
-use Rattle.settings.specs.declared.Settings.{Settings}
-use Rattle.host.specs.Fields.{blockOf}
-use Rattle.host.specs.Answer.{took}
-use Rattle.host.specs.declared.names.Block.{Block}
-use Rattle.host.specs.declared.fields.Fields.{Fields}
-use Rattle.host.specs.declared.answer.Answer.the-variants.{Data}
-use Rattle.optimiser.specs.Flat.{blockNumber, settingsWith, plainAnswer, flatFront}
+use Rattle.host.specs.Names.{blockNumber}
+use Rattle.host.specs.declared.Block.{Block}
+use Rattle.fields.specs.Fields.{blockOf}
+use Rattle.blocks.specs.Blocks.{blocksWith}
+use Rattle.fields.specs.declared.Fields.{Fields}
+use Rattle.blocks.specs.declared.Blocks.{Blocks}
+use Rattle.answer.specs.Answer.{answerOf}
+use Rattle.answer.specs.declared.Answer.the-variants.{Data}
+use Rattle.optimiser.specs.Flat.{plainAnswer, flatRead}
 use Rattle.optimiser.specs.declared.FlatAnswer.{FlatAnswer}
 use Rattle.optimiser.proofs.flat_answer.Statement.{statement}
 use Rattle.optimiser.proofs.flat_answer.Tie as tie
 
--- data, its block's number and its settings as they are found
-data-is : (length : ℕ) (f : Fields) (b : Block) → b ≡ blockOf f → (n : ℕ) → n ≡ blockNumber b → (s : Settings) → s ≡ settingsWith f
-    → _≡_ {A = FlatAnswer} (record { number = 0; kind = 4; what = n; length = length; settings = s }) (flatFront (took length (Data f)))
-data-is length f b is n at s has = λ i. record { number = 0; kind = 4; what = (at ∙ ap blockNumber is) i; length = length; settings = has i }
+-- data, its block's number and the blocks as they are found
+data-is : (size : ℕ) (f : Fields) (b : Block) → b ≡ blockOf f → (n : ℕ) → n ≡ blockNumber b → (x : Blocks) → x ≡ blocksWith f
+    → _≡_ {A = FlatAnswer} (record { number = 0; kind = 4; what = n; size = size; blocks = x }) (flatRead (answerOf size (Data f)))
+data-is size f b is n at x has = λ i. record { number = 0; kind = 4; what = (at ∙ ap blockNumber is) i; size = size; blocks = has i }
 
 returns-4 : tie.Need-returns-4
 returns-4 c =
     let n = c .before in
     let b = n .before in
     let a = b .before .before in
-    rw (a .answer3 .given .1) (data-is _ (a .answer3 .given .0 .0) _ (b .block-of .ensures) _ (n .block-number2 .ensures) _ (c .settings-with .ensures))
+    rw (a .answer3 .given .1) (data-is _ (a .answer3 .given .0 .0) _ (b .block-of .ensures) _ (n .block-number2 .ensures) _ (c .with-fields .ensures))
 
 pub flat-answer-spec : {M : Type 1} → statement M
 flat-answer-spec =

@@ -1,13 +1,31 @@
--- `optimiser::rivertosku_write_order` meets its contract. Assumes nothing.
-use mathlib.Core.Path.{ap}
+-- `optimiser::rivertosku_write_order` meets its contract: a number of 01 or nobody's. Assumes nothing.
+use mathlib.Core.Path.{sym, ap, _∙_}
 use borrow.Author.Needs.{needs}
-use Rattle.host.specs.declared.request.Request.the-variants.{Give}
-use Rattle.optimiser.proofs.Flats.{asks-as}
+use Rattle.optimiser.specs.Flat.{orderAsked}
+use Rattle.optimiser.proofs.Flats.{asks-nothing, asks-as}
 use Rattle.optimiser.proofs.rivertosku_write_order.Statement.{statement}
 use Rattle.optimiser.proofs.rivertosku_write_order.Tie as tie
 
 returns : tie.Need-returns
-returns c = let w = c .before .before in asks-as _ _ (ap Give (w .before .before .order-at .ensures)) (w .write .ensures)
+returns c =
+    let w = c .before .before in
+    let f = w .before .before .before in
+    asks-as _ _ (ap orderAsked (sym (f .found .given .1) ∙ f .before .before .order-at .ensures)) (w .write .ensures)
+
+returns-2 : tie.Need-returns-2
+returns-2 c =
+    let t = c .before in
+    asks-as _ _ (ap orderAsked (sym (t .enum-told .given .1) ∙ t .before .before .order-at .ensures)) (asks-nothing _ _ (c .nobody-asked .ensures))
 
 pub rivertosku-write-order-spec : {M : Type 1} → statement M
-rivertosku-write-order-spec = tie.close (tie.spec (λ c κs. search needs) (λ c κs. search needs) (λ c. search needs) returns)
+rivertosku-write-order-spec =
+    tie.close
+    (tie.spec
+    (λ c κs. search needs)
+    (λ c. search needs)
+    (λ c κs. search needs)
+    (λ c. search needs)
+    returns
+    (λ c. search needs)
+    (λ c κs. search needs)
+    returns-2)

@@ -1,58 +1,63 @@
--- `receiver::run` meets its contract: the line is laid out, and the call on it is the call on the piece. Assumes nothing.
-use Prim.Native.Nat.{_+_, _≤_, _<_}
+-- `receiver::run` meets its contract: the piece ends no unit, and all is held; else the line is taken. Assumes nothing.
+use Prim.Native.Nat.{ℕ, _+_, _≤_, _<_}
+use mathlib.Core.Bool.{true}
 use mathlib.Core.List.{_++_}
-use mathlib.Core.Path.{_≡_, sym}
+use mathlib.Core.Path.{_≡_, refl, sym, _∙_}
 use native.Mathlib.Omega.{arith}
-use lib.ListN.{length, take, replicate}
-use lib.Seq.{length-take-le}
+use lib.ListN.{length, take, length-append}
 use borrow.Author.Needs.{needs}
-use Rattle.receiver.proofs.Lists.{line-long, line-is}
+use Rattle.sheet.specs.Lengths.{longestFrame}
+use Rattle.names.specs.Names.{need}
+use Rattle.names.proofs.Need.{need-most}
 use Rattle.receiver.proofs.Line as line
 use Rattle.receiver.proofs.run.Statement.{statement}
 use Rattle.receiver.proofs.run.Tie as tie
 
--- the line, laid out
-module _ (k : tie.After-line4) where
-  had-short : k .before .before .before .before .before .before .before .joined .result < 48
-  had-short = line.had-short (k .before .before .before .before .before .before .before .before .before .before .before .args .board) (k .before .before .before .before .before .before .before .before .before .before .before .args .stamp) _ (k .before .before .before .before .before .before .before .before .before .before .before .pre .1) (k .before .before .before .before .before .before .before .joined .ensures)
+abbrev start : tie.After-joined → tie.Start
+start k = k .before .before .before
 
-  room : k .before .before .before .before .before .before .before .joined .result + length (k .before .before .before .before .before .before .before .before .before .before .before .args .piece .now) ≤ 298
-  room = omega (arith, had-short, k .before .before .before .before .before .before .before .before .before .before .before .pre .2)
+module _ (k : tie.After-joined) where
+  held-begins : start k .args .board .count < need (take (start k .args .board .count) (start k .args .board .held))
+  held-begins = omega (arith, start k .pre .1, start k .pre .2)
 
-  long : length (k .before .copy2 .last .0) ≡ 298
-  long = line-long (replicate 298 0) (k .before .before .before .before .before .before .before .before .before .before .before .args .board .held) (k .before .before .before .before .before .before .before .before .before .before .before .args .piece .now) (k .before .before .before .before .copy .last .0) (k .before .copy2 .last .0) (k .before .before .before .before .before .before .before .joined .result) (k .before .before .before .before .copy .ensures) (k .before .copy2 .ensures)
+  had-short : k .joined .result < longestFrame
+  had-short = line.had-short (start k .args .board) (start k .args .stamp) _ held-begins (k .joined .ensures)
 
-  laid-out : take (k .before .before .before .before .before .before .before .joined .result + length (k .before .before .before .before .before .before .before .before .before .before .before .args .piece .now)) (k .before .copy2 .last .0)
-      ≡ take (k .before .before .before .before .before .before .before .joined .result) (k .before .before .before .before .before .before .before .before .before .before .before .args .board .held) ++ k .before .before .before .before .before .before .before .before .before .before .before .args .piece .now
-  laid-out =
-      line-is (replicate 298 0) (k .before .before .before .before .before .before .before .before .before .before .before .args .board .held) (k .before .before .before .before .before .before .before .before .before .before .before .args .piece .now) (k .before .before .before .before .copy .last .0) (k .before .copy2 .last .0) (k .before .before .before .before .before .before .before .joined .result) (k .before .before .before .before .copy .ensures) (k .before .copy2 .ensures)
-      (omega (arith, had-short, k .before .before .before .before .before .before .before .before .before .before .before .pre .0)) (omega (arith, k .before .before .before .before .before .before .before .before .before .before .before .pre .0)) room
+  had-long : length (take (k .joined .result) (start k .args .board .held)) ≡ k .joined .result
+  had-long = line.had-long (start k .args .board) (start k .args .stamp) _ held-begins (k .joined .ensures) (start k .pre .0)
 
--- what the call on it gives
-had-taken : tie.Need-sub-call
-had-taken c =
-    let b = c .before .before .before .before .before .before .before .before .before .before .before .before .before .before .before .before .before .before .before in
-    line.had-taken (b .args .board) (b .args .stamp) _ (b .pre .1) (c .before .before .before .before .before .before .before .before .before .before .before .before .before .before .before .joined .ensures) (b .pre .0) _ _ _ _ (laid-out (c .before .before .before .before .before .before .before .before)) _ (c .before .before .before .take-units .ensures)
+-- the piece, behind what is held, begins a unit still
+still : (k : tie.After-is-open) → k .is-open .result ≡ true → let u = take (k .before .joined .result) (start (k .before) .args .board .held) in
+    length (u ++ start (k .before) .args .piece .now) < need (u ++ start (k .before) .args .piece .now)
+still k e =
+    let j = k .before in
+    let s = start j in
+    let b = s .args .board in
+    line.opens _ _ _ _ (had-long j) (line.begins b (s .args .stamp) _ (held-begins j) (j .joined .ensures) (s .pre .0))
+    (line.had-cases b (s .args .stamp) _ (held-begins j) (j .joined .ensures) (λ (n : ℕ). (n ≡ 0 → ⊥) → s .args .wants ≡ need (take n (b .held))) (λ none. absurd (none refl)) (λ _. s .pre .2))
+    (sym (k .is-open .ensures) ∙ e)
 
-returns : tie.Need-returns
-returns c =
-    let b = c .before .before .before .before .before .before .before .before .before .before .before .before .before .before .before .before .before .before .before in
-    line.less-had (b .args .board) (b .args .stamp) _ (b .pre .1) (c .before .before .before .before .before .before .before .before .before .before .before .before .before .before .before .joined .ensures) (b .pre .0) _ _ _ _ (laid-out (c .before .before .before .before .before .before .before .before)) _ (c .before .before .before .take-units .ensures)
+stays-open : tie.Need-returns
+stays-open c =
+    let k = c .before .before .before .before in
+    let s = start (k .before) in
+    let a = s .args in
+    line.stays-open (a .board) (a .stamp) _ (held-begins (k .before)) (k .before .joined .ensures) (s .pre .0) (a .piece .now) (a .reply .now) _ _
+    (c .before .beginning .ensures) refl (still k (c .before .before .before .if1 .taken))
 
 pub run-spec : {M : Type 1} → statement M
 run-spec =
     tie.close
     (tie.spec
     (λ c κs. search needs)
+    (λ c κs. (had-short c, start c .pre .3, start c .pre .4))
+    (λ c κs.
+    let k = c .before .before in
+    let s = start (k .before) in
+    let u = take (k .before .joined .result) (s .args .board .held) in
+    (s .pre .0, omega (arith, still k (c .before .if1 .taken), need-most (u ++ s .args .piece .now), length-append u (s .args .piece .now), had-long (k .before))))
+    (λ c. let j = c .before .before .before .before .before in omega (arith, had-short j, start j .pre .3))
+    stays-open
+    (λ c κs. let j = c .before .before .before in let s = start j in (s .pre .0, held-begins j, s .pre .3, j .joined .ensures))
     (λ c. search needs)
-    (λ c. search needs)
-    (λ c κs. search needs)
-    (λ c. search needs)
-    (λ c κs. search needs)
-    (λ c. omega (arith, room c))
-    (λ c. omega (arith, room (c .before .before), long (c .before .before)))
-    (λ c. sym (length-take-le _ _ (omega (arith, room (c .before .before .before), long (c .before .before .before)))))
-    (λ c κs. search needs)
-    had-taken
-    (λ c. search needs)
-    returns)
+    (λ c. c .before .before .run-line .ensures))

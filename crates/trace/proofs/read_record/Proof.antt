@@ -3,7 +3,7 @@ use mathlib.Core.Path.{sym, _∙_}
 use Prim.Native.Nat.{_+_}
 use borrow.Author.Needs.{needs}
 use borrow.Author.Tests.{lt-ltb, le-ltb}
-use Rattle.trace.specs.Record.{reading}
+use Rattle.trace.specs.Record.{longestRecord, reading}
 use Rattle.trace.proofs.read_record.Statement.{statement}
 use Rattle.trace.proofs.read_record.Tie as tie
 
@@ -20,7 +20,7 @@ unfolding reading
 returns-3 c =
     let d = c .before .before in
     let e = d .before .before in
-    rw (sym (e .before .is-wrong .ensures) ∙ e .if1 .left, sym (d .before .is-wrong2 .ensures) ∙ d .if2 .left, ← c .before .u8-at .ensures, lt-ltb 250 (c .before .u8-at .result) (c .if3 .taken))
+    rw (sym (e .before .is-wrong .ensures) ∙ e .if1 .left, sym (d .before .is-wrong2 .ensures) ∙ d .if2 .left, ← c .before .u8-at .ensures, lt-ltb longestRecord (c .before .u8-at .result) (c .if3 .taken))
 
 returns-4 : tie.Need-returns-4
 unfolding reading
@@ -28,7 +28,7 @@ returns-4 c =
     let n = c .before .before .u8-at in
     let d = c .before .before .before in
     let e = d .before .before in
-    rw (sym (e .before .is-wrong .ensures) ∙ e .if1 .left, sym (d .before .is-wrong2 .ensures) ∙ d .if2 .left, ← n .ensures, le-ltb 250 (n .result) (c .before .if3 .left), lt-ltb _ (7 + n .result) (c .if4 .taken))
+    rw (sym (e .before .is-wrong .ensures) ∙ e .if1 .left, sym (d .before .is-wrong2 .ensures) ∙ d .if2 .left, ← n .ensures, le-ltb longestRecord (n .result) (c .before .if3 .left), lt-ltb _ (7 + n .result) (c .if4 .taken))
 
 returns-5 : tie.Need-returns-5
 unfolding reading
@@ -36,7 +36,7 @@ returns-5 c =
     let n = c .before .before .before .u8-at in
     let d = c .before .before .before .before in
     let e = d .before .before in
-    rw (sym (e .before .is-wrong .ensures) ∙ e .if1 .left, sym (d .before .is-wrong2 .ensures) ∙ d .if2 .left, ← n .ensures, ← c .u32-at .ensures, le-ltb 250 (n .result) (c .before .before .if3 .left), le-ltb _ (7 + n .result) (c .before .if4 .left))
+    rw (sym (e .before .is-wrong .ensures) ∙ e .if1 .left, sym (d .before .is-wrong2 .ensures) ∙ d .if2 .left, ← n .ensures, ← c .u32-at .ensures, le-ltb longestRecord (n .result) (c .before .before .if3 .left), le-ltb _ (7 + n .result) (c .before .if4 .left))
 
 pub read-record-spec : {M : Type 1} → statement M
 read-record-spec =

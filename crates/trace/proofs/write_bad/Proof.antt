@@ -1,7 +1,7 @@
 -- `trace::write_bad` meets its contract. Assumes nothing.
 use borrow.Author.Needs.{needs}
 use Rattle.trace.specs.Lines.{badOf}
-use Rattle.trace.proofs.Texts.{then}
+use Rattle.text.proofs.Texts.{then}
 use Rattle.trace.proofs.write_bad.Statement.{statement}
 use Rattle.trace.proofs.write_bad.Tie as tie
 

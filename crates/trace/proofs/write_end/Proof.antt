@@ -1,7 +1,7 @@
 -- `trace::write_end` meets its contract. Assumes nothing.
 use borrow.Author.Needs.{needs}
 use Rattle.trace.specs.Lines.{endOf}
-use Rattle.trace.proofs.Texts.{then}
+use Rattle.text.proofs.Texts.{then}
 use Rattle.trace.proofs.write_end.Statement.{statement}
 use Rattle.trace.proofs.write_end.Tie as tie
 

@@ -1,7 +1,7 @@
 -- `trace::write_line` meets its contract: its parts stand one behind the other. Assumes nothing.
 use borrow.Author.Needs.{needs}
 use Rattle.trace.specs.Lines.{lineOf}
-use Rattle.trace.proofs.Texts.{then}
+use Rattle.text.proofs.Texts.{then}
 use Rattle.trace.proofs.write_line.Statement.{statement}
 use Rattle.trace.proofs.write_line.Tie as tie
 

@@ -20,13 +20,13 @@ loop-again : tie.Need-loop-again Inv-loop μ-loop
 loop-again c =
     let l = c .before .before .loop in
     let a = c .before .before .before .before .before .before .before .args in
-    (sym (copy-step (l .out) (a .part .now) (a .at) (l .k) (omega (arith, c .before .loop-test .taken, c .before .before .before .least .ensures))) ∙ l .inv .0, simp length-set (l .inv .1))
+    (sym (copy-step (l .out) (a .part .now) (a .at) (l .k) (omega (arith, c .before .loop-test .taken, c .before .before .before .smaller .ensures))) ∙ l .inv .0, simp length-set (l .inv .1))
 
 returns-2 : tie.Need-returns-2 Inv-loop μ-loop
 returns-2 c =
     let l = c .before .loop in
     let a = c .before .before .before .before .before .before .args in
-    sym (copy-end (l .out) (a .part .now) (a .at) (l .k) (omega (arith, l .inv .1, c .before .before .before .if1 .left)) (omega (arith, l .inv .1, c .loop-test .left, c .before .before .least .ensures))) ∙ l .inv .0
+    sym (copy-end (l .out) (a .part .now) (a .at) (l .k) (omega (arith, l .inv .1, c .before .before .before .if1 .left)) (omega (arith, l .inv .1, c .loop-test .left, c .before .before .smaller .ensures))) ∙ l .inv .0
 
 pub copy-spec : {M : Type 1} → statement M
 copy-spec =
@@ -38,9 +38,9 @@ copy-spec =
     (λ c. omega (arith, c .if1 .left))
     (λ c κs. search needs)
     (λ c. (rw add-zero, refl))
-    (λ c. omega (arith, c .before .loop-test .taken, c .before .before .before .least .ensures))
-    (λ c. omega (arith, c .before .loop-test .taken, c .before .before .before .least .ensures))
-    (λ c. omega (arith, c .before .loop-test .taken, c .before .before .before .least .ensures, c .before .before .loop .inv .1))
+    (λ c. omega (arith, c .before .loop-test .taken, c .before .before .before .smaller .ensures))
+    (λ c. omega (arith, c .before .loop-test .taken, c .before .before .before .smaller .ensures))
+    (λ c. omega (arith, c .before .loop-test .taken, c .before .before .before .smaller .ensures, c .before .before .loop .inv .1))
     (λ c. omega (arith, c .before .loop-test .taken))
     (λ c. omega (arith, c .before .loop-test .taken))
     loop-again

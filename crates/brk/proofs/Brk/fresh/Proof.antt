@@ -1,6 +1,6 @@
 -- `brk::Brk::fresh` meets its contract: each field is the least that its test takes. Assumes nothing.
 use mathlib.Core.Path.{refl}
-use Rattle.wire.specs.Tests.{onlyBits}
+use Rattle.ranges.specs.Tests.{onlyBits}
 use Rattle.sheet.specs.Rows.{least}
 use Rattle.brk.proofs.Brk.fresh.Statement.{statement}
 use Rattle.brk.proofs.Brk.fresh.Tie as tie

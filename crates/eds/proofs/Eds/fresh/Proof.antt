@@ -1,6 +1,6 @@
 -- `eds::Eds::fresh` meets its contract: each field is the least that its test takes. Assumes nothing.
 use mathlib.Core.Path.{refl}
-use Rattle.wire.specs.Tests.{signedWithin, onlyBits}
+use Rattle.ranges.specs.Tests.{signedWithin, onlyBits}
 use Rattle.sheet.specs.Rows.{least}
 use Rattle.eds.proofs.Eds.fresh.Statement.{statement}
 use Rattle.eds.proofs.Eds.fresh.Tie as tie

@@ -1,6 +1,6 @@
 -- `hom::Hom::fresh` meets its contract: each field is the least that its test takes. Assumes nothing.
 use mathlib.Core.Path.{refl}
-use Rattle.wire.specs.Tests.{within, signedWithin, onlyBits}
+use Rattle.ranges.specs.Tests.{within, signedWithin, onlyBits}
 use Rattle.sheet.specs.Rows.{least}
 use Rattle.hom.proofs.Hom.fresh.Statement.{statement}
 use Rattle.hom.proofs.Hom.fresh.Tie as tie

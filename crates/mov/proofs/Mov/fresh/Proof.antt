@@ -1,6 +1,6 @@
 -- `mov::Mov::fresh` meets its contract: each field is the least that its test takes. Assumes nothing.
 use mathlib.Core.Path.{refl}
-use Rattle.wire.specs.Tests.{within}
+use Rattle.ranges.specs.Tests.{within}
 use Rattle.sheet.specs.Rows.{least}
 use Rattle.mov.proofs.Mov.fresh.Statement.{statement}
 use Rattle.mov.proofs.Mov.fresh.Tie as tie

@@ -1,6 +1,6 @@
 -- `pid::Pid::fresh` meets its contract: each field is the least that its test takes. Assumes nothing.
 use mathlib.Core.Path.{refl}
-use Rattle.wire.specs.Tests.{finite}
+use Rattle.ranges.specs.Tests.{finite}
 use Rattle.sheet.specs.Rows.{least}
 use Rattle.pid.proofs.Pid.fresh.Statement.{statement}
 use Rattle.pid.proofs.Pid.fresh.Tie as tie

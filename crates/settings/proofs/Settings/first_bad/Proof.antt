@@ -1,5 +1,5 @@
 -- `settings::Settings::first_bad` meets its contract. Assumes nothing.
-use Rattle.wire.specs.Tests.{firstFalse}
+use Rattle.ranges.specs.Tests.{firstFalse}
 use borrow.Author.Tests.{ne-eqb}
 use borrow.Author.Needs.{needs}
 use Rattle.settings.proofs.Settings.first_bad.Statement.{statement}

@@ -1,0 +1,427 @@
+#!/usr/bin/env python3
+"""Writes the player's cases, crates/player/stdin, and what it must print of them, crates/player/stdout. With `--check`: writes nothing, and fails
+where a file differs from what is computed. The form of a case is told in crates/player/src/main.rt."""
+import os
+import struct
+import sys
+
+sys.dont_write_bytecode = True
+import model
+from model import ANY, BITS, BLOCKS, FRAME, ORDERS, PIECE, Board, crc, first_bad, frame, fresh, number_of, section
+from store import store
+
+
+def empty(size):
+    """A buffer before it is lent."""
+    return b'\xee' * size
+
+
+def wide(data, size=FRAME):
+    """The front of a buffer in which these bytes stand."""
+    return data + empty(size - len(data))
+
+
+class Player:
+    """Writes down cases and plays each on the model: its methods are the player's operations."""
+
+    def __init__(self):
+        self.stdin, self.stdout, self.board = b'', '', Board()
+
+    def case(self, operation, number=0, room=0, stamp=0, data=b''):
+        self.stdin += struct.pack('<cBHIH', operation.encode(), number, room, stamp, len(data)) + data
+
+    def say(self, label):
+        """The label of what follows, in front of its line."""
+        self.case('"', data=label.encode() + b':')
+        self.stdout += label + ':'
+
+    def line(self, *values):
+        """A line's end: numbers in decimal, bytes in hexadecimal or `-`."""
+        self.stdout += ''.join(' ' + (v.hex() or '-' if isinstance(v, bytes) else str(v)) for v in values) + '\n'
+
+    def rest(self):
+        b = self.board
+        return b.flags, *b.refused, b.count, b.held[:b.count], b.last
+
+    # ---- the board
+
+    def fresh(self):
+        self.case('f')
+        self.board = Board()
+
+    def put(self, block, data):
+        self.case('p', number_of(block), data=data)
+        self.board.settings[block] = model.numbers_in(block, data)
+
+    def note(self, flags, block, field):
+        self.case('n', data=struct.pack('<III', flags, block, field))
+        self.board.flags, self.board.refused = flags, (block, field)
+
+    def hold(self, data, count, stamp=0):
+        self.case('h', room=count, stamp=stamp, data=data)
+        self.board.held, self.board.count, self.board.last = (data + bytes(FRAME))[:FRAME], count, stamp
+
+    def call(self, piece, stamp=7, room=250, show=0):
+        self.case('c', show, room, stamp, piece)
+        number, taken, order, reply = self.board.call(piece, stamp, room)
+        self.line(number, taken, len(reply), order, wide(reply, show), *self.rest())
+        return reply
+
+    def report(self, now):
+        self.case('r', stamp=now)
+        number = self.board.report(now)
+        self.line(number, *self.rest())
+
+    def block(self, block):
+        self.case('b', number_of(block))
+        numbers = self.board.settings[block]
+        self.line(first_bad(block, numbers), wide(section(block, numbers)))
+
+    def keeps(self):
+        self.case('k')
+        self.line(self.board.held)
+
+    # ---- the host
+
+    def get(self, block, room=50):
+        self.case('g', number_of(block), room)
+        return self.written(*model.write_get(block, empty(room)))
+
+    def set(self, block, data, room=50):
+        self.case('s', number_of(block), room, data=data)
+        return self.written(*model.write_set(block, model.numbers_in(block, data), empty(room)))
+
+    def order(self, order, room=50):
+        self.case('o', ORDERS.index(order) + 1, room)
+        return self.written(*model.write_order(order, empty(room)))
+
+    def written(self, number, length, buffer):
+        self.line(number, length, buffer)
+        return buffer[:length]
+
+    def answer(self, data):
+        self.case('a', data=data)
+        number, length, name, read = model.read(data)
+        self.line(number, length, *[] if name is None else [name], *[] if read is None else [wide(read)])
+
+    # ---- the leaves
+
+    def checksum(self, data):
+        self.case('x', data=data)
+        self.line(*struct.unpack('<H', crc(data)))
+
+    def integer(self, n):
+        self.case('i', stamp=n)
+        self.line(n - 65536 if n >= 32768 else n)
+
+
+# ---- numbers of fields
+
+FIELDS = {
+    'mov': ['Speed', 'uSpeed', 'Accel', 'Decel', 'AntiplaySpeed', 'uAntiplaySpeed'],
+    'eng': ['NomVoltage', 'NomCurrent', 'NomSpeed', 'uNomSpeed', 'EngineFlags', 'Antiplay', 'MicrostepMode', 'StepsPerRev'],
+    'pwr': ['HoldCurrent', 'CurrReductDelay', 'PowerOffDelay', 'CurrentSetTime', 'PowerFlags'],
+    'eds': ['BorderFlags', 'EnderFlags', 'LeftBorder', 'uLeftBorder', 'RightBorder', 'uRightBorder'],
+    'hom': ['FastHome', 'uFastHome', 'SlowHome', 'uSlowHome', 'HomeDelta', 'uHomeDelta', 'HomeFlags'],
+    'brk': ['t1', 't2', 't3', 't4', 'BrakeFlags'],
+    'pid': ['KpU', 'KiU', 'KdU', 'Kpf', 'Kif', 'Kdf'],
+}
+# a good set of each block, whose numbers tell its fields apart
+SETS = {
+    'mov': [100000, 17, 1, 65535, 258, 255],
+    'eng': [1, 8000, 100000, 2, 3, -4, 9, 200],
+    'pwr': [100, 1, 2, 3, 4],
+    'eds': [1, 2, -3, -255, 4, 255],
+    'hom': [100000, 1, 2, 3, -4, 255, 5],
+    'brk': [65535, 1, 2, 3, 3],
+    'pid': [1, 2, 3, 0x80000000, 0x3F000000, 0x3F800000],
+}
+GAINS = [0x80000000, 1, 0x7F7FFFFF, 0x7F800000, 0x7FC00001]  # -0.0, the least above 0, the largest finite, infinity, a NaN
+
+
+def span(form):
+    """The least and the largest number of a field's width."""
+    bits = 8 * struct.calcsize('<' + form)
+    return (-2**(bits - 1), 2**(bits - 1) - 1) if form.islower() else (0, 2**bits - 1)
+
+
+def edges(field):
+    """What a field is tried with: its range's edges and the numbers past them; the ends of its width where it has none; gains; every flag bit."""
+    least, most = span(field[0].replace('F', 'I'))
+    if field[0] == 'F':
+        return GAINS
+    if field[1] is BITS:
+        return [1 << k for k in range(most.bit_length())]
+    if field[1] is ANY:
+        return [least, most]
+    return [n for n in (field[1] - 1, field[1], field[2], field[2] + 1) if least <= n <= most]
+
+
+def replaced(block, numbers, k, n):
+    """The data section of these numbers, but for n in the k-th field, from 0."""
+    return section(block, numbers[:k] + [n] + numbers[k + 1:])
+
+
+# ---- the cases
+
+SPWR = b'spwr\xff\xff' + bytes(14)
+STOP = b'stop'
+
+
+def sheet(p):
+    """01, "Frames on the bench": the cases of calls, starred ones too."""
+    def on_fresh(label, piece, held=b'', **how):
+        p.fresh()
+        if held:
+            p.hold(held, len(held))
+        p.say(label)
+        p.call(piece, **how)
+    sbrk = b'sbrk\xff\xff' + bytes(17)
+    on_fresh('sbrk', sbrk + b'\0\0')
+    p.say('then gbrk')
+    p.call(b'gbrk')
+    on_fresh('sbrk, CRC 01 00', sbrk + b'\1\0')
+    p.say('then gbrk')
+    p.call(b'gbrk')
+    on_fresh('smov', b'smov\xff\xff' + bytes(24))
+    p.say('then gmov')
+    p.call(b'gmov')
+    on_fresh('righ then t', b'right')
+    on_fresh('s and four zeros', b's\0\0\0\0')
+    for now in (304, 305):
+        on_fresh('st at 4294967200', b'st', stamp=4294967200)
+        p.say(f'op at {now}')
+        p.call(b'op', stamp=now)
+    on_fresh('spwr', SPWR)
+    on_fresh('room 47', STOP, room=FRAME - 1, show=FRAME)
+    on_fresh('piece of 251', b'x' * (PIECE + 1))
+    on_fresh('both', b'x' * (PIECE + 1), room=FRAME - 1)
+    on_fresh('unfinished 00', STOP, held=b'\0')
+    on_fresh('unfinished 00, room 47', STOP, held=b'\0', room=FRAME - 1)
+    on_fresh('gpidgpid', b'gpidgpid', room=FRAME)
+
+
+def unsound(p):
+    """A board for each rule of soundness, broken; each range is broken in `fields`."""
+    brk = frame('brk', fresh('brk'))
+    for label, held, count in [
+            ('unknown name', b'x', 4), ('a get', b'gmov', 4), ('an order', b'stop', 4), ('whole set', brk, 25), ('longer than its set', brk, 26),
+            ('49 bytes', b'x', FRAME + 1), ('49 bytes of a set', b'spid', FRAME + 1), ('65535 bytes', b'spid', 65535), ('zero in front', b'\0mov', 3),
+            # and sound ones, close by
+            ('one byte short', brk[:24], 24), ('three bytes', b'xxx', 3), ('a name', b'spid', 4), ('47 bytes', b'spid', FRAME - 1)]:
+        p.fresh()
+        p.hold(held, count)
+        p.say(label)
+        p.call(STOP)
+    for flags in (7, 8, 2**32 - 1):
+        p.fresh()
+        p.note(flags, 0, 0)
+        p.say(f'flags {flags}')
+        p.call(STOP)
+    for block in BLOCKS:
+        p.fresh()
+        p.put(block, bytes(model.total(block) - 6))
+        p.say(f'{block} all zero')
+        p.call(STOP)
+    p.fresh()
+    p.note(4, 255, 2**32 - 1)
+    p.say('any refused block and field')
+    p.call(STOP)
+
+
+def one_more(data, place):
+    """The same bytes but for one of them."""
+    changed = bytearray(data)
+    changed[place] = (changed[place] + 1) % 256
+    return bytes(changed)
+
+
+def stops(p):
+    """The three causes for which a call stops: for each reply, a room that it fills and one that is a byte short; an order; the piece's end."""
+    for label, last, size in [
+            ('zero', b'\0', 1), ('errc', b'move', 4), ('errd', b'spwr' + bytes(16), 4), ('errv', SPWR, 4), ('order', STOP, 4),
+            ('set', frame('pwr', SETS['pwr']), 4), ('get', b'gpwr', 20)]:
+        for room in (FRAME - 1 + size, FRAME + size):
+            p.fresh()
+            p.say(f'{label} behind {FRAME} bytes, room {room}')
+            p.call(b'gpid' + last + b'\0', room=room)
+    for label, piece in [
+            ('orders', b'leftstop'), ('250 zeros', bytes(PIECE)), ('250 bytes of a name', b'x' * PIECE), ('unknown names', b'aaaabbbbccc')]:
+        p.fresh()
+        p.say(label)
+        p.call(piece)
+    p.say('the last of them, late')
+    p.call(b'c', stamp=408)
+
+
+def blocks(p):
+    """A good set and its get, and the set with each byte of its CRC wrong."""
+    for block in BLOCKS:
+        p.fresh()
+        p.say(f'{block} set')
+        p.call(frame(block, fresh(block)))
+        p.say(f'{block} get')
+        p.call(b'g' + block.encode())
+        for place in (-2, -1):
+            p.fresh()
+            p.say(f'{block} wrong CRC')
+            p.call(one_more(frame(block, fresh(block)), place))
+
+
+def one_number(p, label, block, data):
+    """A data section through the writer, as a set with its get, and held by a board."""
+    p.say(f'{label} write')
+    p.set(block, data, room=FRAME)
+    p.fresh()
+    p.say('  set')
+    p.call(model.framed('s' + block, data))
+    p.say('  get')
+    p.call(b'g' + block.encode())
+    p.fresh()
+    p.put(block, data)
+    p.say('  held')
+    p.call(STOP)
+    p.say('  block')
+    p.block(block)
+
+
+def fields(p):
+    """Every field at its edges, every bit of every flag field."""
+    for block in BLOCKS:
+        for k, field in enumerate(BLOCKS[block][0]):
+            for n in edges(field):
+                one_number(p, f'{block} {FIELDS[block][k]} {n}', block, replaced(block, fresh(block), k, n))
+
+
+# a field out of range in one of those sets
+REFUSED = [('mov', 0, 100001), ('eng', 6, 10), ('pwr', 0, 101), ('eds', 5, 256), ('hom', 5, -256), ('pid', 3, model.NAN)]
+
+
+def exchange(p, label, piece, room=FRAME):
+    """What the board answers to a frame, read by the host."""
+    p.say(label + ' call')
+    reply = p.call(piece, room=room)
+    p.say('  read')
+    p.answer(reply)
+
+
+def requests(p):
+    """Every request through writer, board and reader; then what the board answers to frames that no writer sends."""
+    p.fresh()
+    for turn in ('get', 'set', 'get'):
+        for block in BLOCKS:
+            p.say(f'{turn} {block} write')
+            exchange(p, ' ', p.get(block) if turn == 'get' else p.set(block, section(block, SETS[block])))
+    for order in ORDERS:
+        p.say(f'order {order} write')
+        exchange(p, ' ', p.order(order))
+    exchange(p, 'unknown', b'move')
+    exchange(p, 'damaged', b'spwr' + bytes(16))
+    exchange(p, 'HoldCurrent 255', SPWR)
+    exchange(p, 'zero', b'\0')
+
+
+def refusals(p):
+    """The refusals of writer and reader, in 02's sequence: each just before the next would hold."""
+    for block, k, n in REFUSED:
+        p.say(f'{FIELDS[block][k]} {n} write')
+        p.set(block, replaced(block, SETS[block], k, n))
+    p.say('no room besides write')
+    p.set('mov', replaced('mov', SETS['mov'], 0, 100001), room=0)
+    for room in (0, 3, 4):
+        p.say(f'room {room} write')
+        p.get('mov', room)
+        p.say(f'room {room} write')
+        p.order('stop', room)
+    for block in BLOCKS:
+        for room in (model.total(block) - 1, model.total(block)):
+            p.say(f'set {block}, room {room} write')
+            p.set(block, section(block, SETS[block]), room)
+    for room in (29, 30):
+        p.say(f'set mov with Speed 1, room {room} write')
+        p.set('mov', replaced('mov', SETS['mov'], 0, 1), room)
+    power = b'\xff' + bytes(12) + b'\x01'
+    gains = section('pid', [1, 2, 3, 0x7FA00001, 0xFF800000, 0x80000000])
+    for label, data in [
+            ('nothing', b''), ('zero', b'\0'), ('zero, then more', b'\0mov'), ('three bytes', b'gmo'), ("no answer's name", b'move'),
+            ('a later command, cut', b'gpos\0\0'), ('cut', b'gpwr' + bytes(15)), ('wrong CRC', b'gpwr' + bytes(16)),
+            ('HoldCurrent 255, reserved not zero', model.framed('gpwr', power)), ('gains not finite', model.framed('gpid', gains)),
+            ('errc, then more', b'errcerrd'), ('errd', b'errd'), ('errv, cut', b'err')]:
+        p.say(f'{label} read')
+        p.answer(data)
+    for block in BLOCKS:
+        data = model.framed('g' + block, section(block, SETS[block]))
+        for label, part in [('', data), (', then more', data + b'\0'), (', cut', data[:-1]), (', damaged', one_more(data, -1))]:
+            p.say(f'{block}{label} read')
+            p.answer(part)
+
+
+def reports(p):
+    """02, P3: reports of the time among calls."""
+    def session(label, *events):
+        p.fresh()
+        for what, stamp in events:
+            p.say(f'{label}, ' + ('clock' if what is None else 'bytes') + f' {stamp}')
+            if what is None:
+                p.report(stamp)
+            else:
+                p.call(what, stamp, FRAME)
+    # half a command and, 2^32 + 100 ms later, the rest of it: the counter has come round, and nobody told the time
+    session('not told', (b'st', 0), (b'op', 100))
+    for label, first, now, last in [
+            ('told after 400 ms', 0, 400, 100), ('told after 401 ms', 0, 401, 100), ('told after a day', 0, 86400000, 100),
+            ('400 ms across the wrap', 4294967200, 304, 4), ('401 ms across the wrap', 4294967200, 305, 4)]:
+        session(label, (b'st', first), (None, now), (b'op', last))
+    # a call stops, the time is reported, and the rest of its piece is offered with its own stamp
+    for now in (1400, 1401):
+        session(f'{now - 1000} ms, then the rest', (b'gpidgpid', 1000), (None, now), (b'd', 1000))
+    # a report restarts no wait; with nothing unfinished it changes nothing
+    session('two reports', (b'st', 0), (None, 300), (None, 500))
+    session('nothing unfinished', (STOP, 600), (None, 4000000000))
+    p.fresh()
+    p.hold(b'\0', 1)
+    p.say('unfinished 00, clock 1000')
+    p.report(1000)
+
+
+def buffers(p):
+    """Bytes past the reply keep their value; spare bytes held are zero after a call that took a byte, and no cause for 3."""
+    for label, piece, room in [
+            ('nothing', b'', FRAME), ('no reply', b'sto', FRAME), ('zero', b'\0', FRAME), ('errc', b'move', FRAME),
+            ('errd', b'spwr' + bytes(16), FRAME), ('errv', SPWR, FRAME), ('set', frame('brk', SETS['brk']), FRAME), ('get', b'gpwr', FRAME),
+            ('order', b'home\0', FRAME), ('five replies', b'\0gpwrmove\0gbrk', 64), ('all of the room', b'gpid', FRAME),
+            ('one byte left', b'gpid\0\0', FRAME + 1), ('refused', b'stop', FRAME - 1), ('refused', b'x' * (PIECE + 1), FRAME)]:
+        p.fresh()
+        p.say(f'buffer, room {room}, {label}')
+        p.call(piece, room=room, show=80)
+    p.fresh()
+    p.hold(b'smov' + b'\xff' * (FRAME - 4), 4, 7)
+    p.say('spare bytes')
+    p.keeps()
+    for label, piece in [('an empty piece', b''), ('one byte', b'\0')]:
+        p.say(f'spare bytes, {label}')
+        p.call(piece)
+        p.say('  held')
+        p.keeps()
+
+
+def leaves(p):
+    """The checksum's vectors of 01; signed numbers at their ends."""
+    for label, data in [('nothing', b''), ('00', b'\0'), ('FF', b'\xff'), ('FF FF', b'\xff\xff'), ('123456789', b'123456789')]:
+        p.say(f'crc {label}')
+        p.checksum(data)
+    for n in (0, 32767, 32768, 65535):
+        p.say(f'i16 {n}')
+        p.integer(n)
+
+
+def main():
+    p = Player()
+    for cases in (leaves, sheet, unsound, stops, blocks, fields, requests, refusals, reports, buffers):
+        cases(p)
+    folder = os.path.join(os.path.dirname(os.path.abspath(__file__)), '..', 'crates', 'player')
+    store(folder, {'stdin': p.stdin, 'stdout': p.stdout.encode()})
+
+
+if __name__ == '__main__':
+    main()

@@ -1,0 +1,210 @@
+"""The board and the host in Python, written from sheets 01 and 02 alone, for ./make.py and ../traces: it shares nothing with the crates."""
+import struct
+
+# name: fields (format, least, most) or (format, BITS, known bits), reserved bytes; in 01's order
+ANY = None
+BITS = 'bits'
+BLOCKS = {
+    'mov': ([('I', 0, 100000), ('B', ANY), ('H', 1, 65535), ('H', 1, 65535), ('I', 0, 100000), ('B', ANY)], 10),
+    'eng': ([('H', ANY), ('H', 15, 8000), ('I', 1, 100000), ('B', ANY), ('H', BITS, 0xFF), ('h', ANY), ('B', 1, 9), ('H', 1, 65535)], 12),
+    'pwr': ([('B', 0, 100), ('H', ANY), ('H', ANY), ('H', ANY), ('B', BITS, 0x07)], 6),
+    'eds': ([('B', BITS, 0x0F), ('B', BITS, 0x07), ('i', ANY), ('h', -255, 255), ('i', ANY), ('h', -255, 255)], 6),
+    'hom': ([('I', 0, 100000), ('B', ANY), ('I', 0, 100000), ('B', ANY), ('i', ANY), ('h', -255, 255), ('H', BITS, 0x1FF)], 9),
+    'brk': ([('H', ANY), ('H', ANY), ('H', ANY), ('H', ANY), ('B', BITS, 0x03)], 10),
+    'pid': ([('H', ANY), ('H', ANY), ('H', ANY), ('F', ANY), ('F', ANY), ('F', ANY)], 24),
+}
+NAMES = list(BLOCKS)
+ORDERS = ['stop', 'sstp', 'pwof', 'left', 'rigt', 'home', 'loft']
+ERRORS = ['errc', 'errd', 'errv']
+NAN = 0x7FC00000
+PIECE, FRAME = 250, 48  # the longest piece; the longest frame, which is the least room and what the board can hold
+
+
+# ---- blocks
+
+def number_of(name):
+    """A block's number in 01."""
+    return NAMES.index(name) + 1
+
+
+def crc(data):
+    register = 0xFFFF
+    for byte in data:
+        register ^= byte
+        for _ in range(8):
+            register = register >> 1 ^ (0xA001 if register & 1 else 0)
+    return struct.pack('<H', register)
+
+
+def layout(name):  # a float is kept as its 32 bits
+    return '<' + ''.join(f[0] for f in BLOCKS[name][0]).replace('F', 'I')
+
+
+def total(name):
+    return 4 + struct.calcsize(layout(name)) + BLOCKS[name][1] + 2
+
+
+def passes(field, n):
+    if field[0] == 'F':
+        return n >> 23 & 255 != 255
+    if field[1] is BITS:
+        return n & ~field[2] == 0
+    return field[1] is ANY or field[1] <= n <= field[2]
+
+
+def first_bad(name, numbers):
+    """The number of the first field out of its range, or 0."""
+    return next((k + 1 for k, f in enumerate(BLOCKS[name][0]) if not passes(f, numbers[k])), 0)
+
+
+def fresh(name):
+    return [next(n for n in range(20) if passes(f, n)) for f in BLOCKS[name][0]]
+
+
+def section(name, numbers, reserved=0):
+    return struct.pack(layout(name), *numbers) + bytes([reserved]) * BLOCKS[name][1]
+
+
+def numbers_in(name, data):
+    """The fields of a data section. Every NaN pattern is the one NaN."""
+    numbers = struct.unpack_from(layout(name), data)
+    return [NAN if f[0] == 'F' and n % 2**31 > 0x7F800000 else n for f, n in zip(BLOCKS[name][0], numbers)]
+
+
+def framed(name, data, wrong=0):
+    low, high = crc(data)
+    return name.encode() + data + bytes([low ^ wrong, high])
+
+
+def frame(name, numbers, reserved=0, wrong=0):
+    """A set's frame; `wrong` goes into its CRC."""
+    return framed('s' + name, section(name, numbers, reserved), wrong)
+
+
+# ---- the board
+
+class Board:
+    """The bytes held, `count` of which are unfinished, and the rest of a board's state. A board may be made that is not sound."""
+
+    def __init__(self):
+        self.settings, self.flags, self.refused = {b: fresh(b) for b in BLOCKS}, 0, (0, 0)
+        self.held, self.count, self.last = bytes(FRAME), 0, 0
+
+    def hold(self, unit):
+        self.held, self.count = unit + bytes(FRAME - len(unit)), len(unit)
+
+    def is_begun(self):
+        """Whether the unfinished bytes are none or a true beginning of one unit."""
+        if self.count < 4:
+            return self.count == 0 or self.held[0] != 0
+        name = self.held[:4].decode('latin1')
+        return name[0] == 's' and name[1:] in BLOCKS and self.count < total(name[1:])
+
+    def is_sound(self):
+        return self.is_begun() and self.flags <= 7 and not any(first_bad(b, self.settings[b]) for b in BLOCKS)
+
+    def answer(self, unit):
+        """Reply, order, and a flag with the field refused, or a setting, of a whole unit; None where it is not whole yet."""
+        if unit[0] == 0:
+            return b'\0', 0, None
+        if len(unit) < 4:
+            return None
+        name = unit[:4].decode('latin1')
+        block = name[1:] if name[0] in 'sg' and name[1:] in BLOCKS else None
+        if name in ORDERS:
+            return unit[:4], ORDERS.index(name) + 1, None
+        if block is None:
+            return b'errc', 0, (1, None)
+        if name[0] == 'g':
+            return framed(name, section(block, self.settings[block])), 0, None
+        if len(unit) < total(block):
+            return None
+        if crc(unit[4:-2]) != unit[-2:]:
+            return b'errd', 0, (2, None)
+        numbers = numbers_in(block, unit[4:])
+        bad = first_bad(block, numbers)
+        if bad:
+            return b'errv', 0, (4, (number_of(block), bad))
+        return unit[:4], 0, (block, numbers)
+
+    def keep(self, change):
+        kind, what = change
+        if kind in BLOCKS:
+            self.settings[kind] = what
+        else:
+            self.flags, self.refused = self.flags | kind, what or self.refused
+
+    def call(self, piece, stamp, room):
+        """Number, taken, order and reply."""
+        if len(piece) > PIECE:
+            return 1, 0, 0, b''
+        if room < FRAME:
+            return 2, 0, 0, b''
+        if not self.is_sound():
+            return 3, 0, 0, b''
+        taken, reply = 0, b''
+        for byte in piece:
+            late = (stamp - self.last) % 2**32 > 400
+            unit = (b'' if late else self.held[:self.count]) + bytes([byte])
+            said = self.answer(unit)
+            if said and len(reply + said[0]) > room:
+                break
+            taken, self.last = taken + 1, stamp
+            self.hold(b'' if said else unit)
+            if said:
+                reply += said[0]
+                if said[2]:
+                    self.keep(said[2])
+                if said[1]:
+                    return 0, taken, said[1], reply
+        return 0, taken, 0, reply
+
+    def report(self, now):
+        """The number of a report of the time."""
+        if not self.is_sound():
+            return 3
+        if self.count and (now - self.last) % 2**32 > 400:
+            self.hold(b'')
+        return 0
+
+
+# ---- the host
+
+def written(data, bad, buffer):
+    """Number, length and buffer of a writer that has this frame to write, the first field out of range known."""
+    if bad:
+        return 3, 0, buffer
+    if len(buffer) < len(data):
+        return 4, 0, buffer
+    return 0, len(data), data + buffer[len(data):]
+
+
+def write_get(block, buffer):
+    return written(b'g' + block.encode(), 0, buffer)
+
+
+def write_order(order, buffer):
+    return written(order.encode(), 0, buffer)
+
+
+def write_set(block, numbers, buffer):
+    return written(frame(block, numbers), first_bad(block, numbers), buffer)
+
+
+def read(data):
+    """Number and length of the answer at the front, and what it is: `zero`, or its name with the data section, if it has one."""
+    if data[:1] == b'\0':
+        return 0, 1, 'zero', None
+    if len(data) < 4:
+        return 5, 0, None, None
+    name = data[:4].decode('latin1')
+    if name[0] == 'g' and name[1:] in BLOCKS:
+        size = total(name[1:])
+        if len(data) < size:
+            return 7, 0, None, None
+        if crc(data[4:size - 2]) != data[size - 2:size]:
+            return 8, 0, None, None
+        return 0, size, name, section(name[1:], numbers_in(name[1:], data[4:]))
+    if name in ORDERS + ERRORS or name[0] == 's' and name[1:] in BLOCKS:
+        return 0, 4, name, None
+    return 6, 0, None, None

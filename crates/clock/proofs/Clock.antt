@@ -1,0 +1,87 @@
+-- A report of the time is the rule's event: what it does to a state, and in a run. In quotation marks: sheet 02, P3. Assumes nothing.
+use mathlib.Core.Path.{_≡_, refl, sym, ap, _∙_}
+use mathlib.Core.Bool.{Bool, true, false}
+use mathlib.Core.List.{List, [], _∷_, _++_}
+use Prim.Native.Nat.{ℕ}
+use native.Mathlib.Omega.{arith}
+use lib.ListN.{length}
+use borrow.Author.Tests.{lt-ltb}
+use Rattle.rule.specs.Run.{Item, byte, event, late}
+use Rattle.rule.specs.Framing.{unitsOf}
+use Rattle.rule.specs.Rule.{Said, quiet, then, State, deal, wholeRun}
+use Rattle.rule.specs.Step.{feedOn, feed, step, steps}
+use Rattle.rule.specs.Loop.{stateAt}
+use Rattle.rule.specs.TrueTime.{Timed, times, WholeClose, stamped, Watched}
+use Rattle.rule.proofs.Choice.{either}
+use Rattle.rule.proofs.Steps.{steps-append, steps-is-whole}
+use Rattle.rule.proofs.TrueTime.{true-time}
+use Rattle.names.specs.declared.Order.{Order}
+use Rattle.names.proofs.Need.{need-some, need-law}
+use Rattle.unit.specs.Unit.{Event, clock, act}
+use Rattle.unit.specs.Protocol.{protocol, soundState}
+use Rattle.unit.specs.declared.Memory.{Memory}
+use Rattle.unit.proofs.Sound.{sound-memory, sound-from}
+use Rattle.clock.specs.Clock.{overdue, dropped, clocked}
+
+-- THE RULE'S EVENT: "it is dropped; the last stamp stays", without a word
+pub clock-step : (s : State Memory) (now : ℕ) → step protocol s (event (clock now)) ≡ quiet (clocked s now)
+unfolding step feed feedOn deal act
+clock-step s now = by (s .line .unfinished) (late now (s .line .last)) refl
+  where
+    by : (u : List ℕ) (y : Bool) → late now (s .line .last) ≡ y
+        → let held : State Memory = stateAt (s .memory) u (s .line .last) in step protocol held (event (clock now)) ≡ quiet (clocked held now)
+    by [] y e = refl
+    by (a ∷ u) true e = rw (e, lt-ltb 0 (length (a ∷ u)) (omega arith))
+    by (a ∷ u) false e = rw (e, lt-ltb 0 (length (a ∷ u)) (omega arith))
+
+-- a sound state stays sound
+pub clock-sound : (s : State Memory) (now : ℕ) → soundState s ≡ true → soundState (clocked s now) ≡ true
+clock-sound s now h =
+    either (λ (x : State Memory). soundState x ≡ true) (overdue s now) (dropped s) s (sound-from (dropped s) (need-some []) (sound-memory s h)) h
+
+-- ---- in a run: the bytes and reports q, then a report, then r
+
+module _ (m : Memory) (last now : ℕ) (q r : List (Item Event)) where
+  -- what q left is reported to, and the run goes on
+  pub run-clock : wholeRun protocol m last (q ++ event (clock now) ∷ r) ≡ then (wholeRun protocol m last q) (λ s. steps protocol (clocked s now) r)
+  unfolding steps
+  run-clock =
+      let start : State Memory = stateAt m [] last in
+      sym (steps-is-whole protocol need-law m last (q ++ event (clock now) ∷ r)) ∙ steps-append protocol q (event (clock now) ∷ r) start
+      ∙ (λ i. then (steps-is-whole protocol need-law m last q i) (λ s. then (clock-step s now i) (λ c. steps protocol c r)))
+
+  -- A REPORT INSIDE A UNIT AT A WAIT OF AT MOST 400, OR WITH NOTHING UNFINISHED, IS TRANSPARENT
+  pub transparent : overdue (wholeRun protocol m last q .next) now ≡ false
+      → wholeRun protocol m last (q ++ event (clock now) ∷ r) ≡ wholeRun protocol m last (q ++ r)
+  transparent e =
+      let start : State Memory = stateAt m [] last in
+      run-clock ∙ rw e
+      (ap (λ (a : Said Order (State Memory)). then a (λ s. steps protocol s r)) (sym (steps-is-whole protocol need-law m last q))
+      ∙ sym (steps-append protocol q r start) ∙ steps-is-whole protocol need-law m last (q ++ r))
+
+-- any number of reports, none of them overdue where it comes: the run says and leaves what its bytes alone do
+abbrev pub NoneOverdue : State Memory → List (Item Event) → Type 0
+NoneOverdue s [] = Unit {0}
+NoneOverdue s (byte t b ∷ r) = NoneOverdue (step protocol s (byte t b) .next) r
+NoneOverdue s (event (clock now) ∷ r) = (overdue s now ≡ false) × NoneOverdue s r
+
+abbrev pub onlyBytes : List (Item Event) → List (Item Event)
+onlyBytes [] = []
+onlyBytes (byte t b ∷ r) = byte t b ∷ onlyBytes r
+onlyBytes (event e ∷ r) = onlyBytes r
+
+pub none-overdue : (r : List (Item Event)) (s : State Memory) → NoneOverdue s r → steps protocol s r ≡ steps protocol s (onlyBytes r)
+unfolding steps
+none-overdue [] s h = refl
+none-overdue (byte t b ∷ r) s h =
+    let a = step protocol s (byte t b) in
+    ap (λ (rest : Said Order (State Memory)). then a (λ _. rest)) (none-overdue r (a .next) h)
+none-overdue (event (clock now) ∷ r) s h =
+    ap (λ (a : Said Order (State Memory)). then a (λ c. steps protocol c r)) (clock-step s now) ∙ rw (h .0) (none-overdue r s (h .1))
+
+-- ---- WHY THE TIME IS REPORTED
+-- A run in true time whose main loop does its part (`Watched`): each whole unit that the rule finds in it came without a wait of more than 400 ms
+-- of true time, however often the counter came round
+pub in-true-time : (run : List Timed) → Watched clock (protocol .cuts) (protocol .need) run
+    → WholeClose (unitsOf (protocol .cuts) (protocol .need) (stamped clock run) .tokens) (times run)
+in-true-time = true-time clock (protocol .cuts) (protocol .need) need-law (λ last now. refl)

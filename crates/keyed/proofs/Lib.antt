@@ -1,0 +1,3 @@
+pub mod Values
+pub mod Every
+pub mod One

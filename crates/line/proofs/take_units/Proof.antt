@@ -1,0 +1,121 @@
+-- `line::take_units` meets its contract: each turn of the loop is a law of Turns. Assumes nothing.
+use mathlib.Core.List.{[]}
+use mathlib.Core.Path.{sym, _∙_}
+use Prim.Native.Nat.{_-_}
+use native.Mathlib.Omega.{arith}
+use lib.ListN.{length}
+use borrow.Author.Needs.{needs}
+use Rattle.rule.specs.Calls.{accept}
+use Rattle.rule.specs.Loop.{stateAt}
+use Rattle.unit.specs.Protocol.{protocol}
+use Rattle.line.proofs.Turns as turns
+use Rattle.line.proofs.take_units.Statement.{statement}
+use Rattle.line.proofs.take_units.Tie as tie
+
+abbrev Inv-loop : tie.InvT-loop
+Inv-loop line stamp reply₀ cur₀ i₀ w₀ reply cur i w = turns.Inv (accept protocol (stateAt cur₀ [] stamp) stamp (length reply₀) line) stamp line reply₀ reply cur i w
+
+abbrev μ-loop : tie.MeasureT-loop
+μ-loop line stamp reply₀ cur₀ i₀ w₀ reply cur i w = length line - i
+
+-- ---- the places: a turn's test, the look-up of its unit, and the unit's answer, each by those before it
+
+abbrev turn : tie.After-span-of Inv-loop μ-loop → tie.In-loop Inv-loop μ-loop
+turn k = k .before .before .before .before
+
+looked : (k : tie.After-span-of Inv-loop μ-loop)
+    → turns.Looked (turn k .before .before .before .before .args .line .now) (turn k .before .loop .i) (k .span-of .result) (k .before .kind-of .result)
+looked k = record { looked = turns.looked-at _ _ _ _ (k .before .before .u32-at .ensures) (k .before .kind-of .ensures); spans = k .span-of .ensures }
+
+abbrev unit : tie.After-replied-of Inv-loop μ-loop → tie.After-span-of Inv-loop μ-loop
+unit k = k .before .before
+
+abbrev due : tie.Else2 Inv-loop μ-loop → tie.After-replied-of Inv-loop μ-loop
+due k = k .before
+
+abbrev room : tie.After-answer Inv-loop μ-loop → tie.Else2 Inv-loop μ-loop
+room k = k .before .before .before
+
+-- ---- the turns
+
+unfinished : tie.Need-returns Inv-loop μ-loop
+unfinished c =
+    let k = c .before .before in
+    turns.unfinished _ _ _ _ _ _ _ _ (turn k .before .loop .inv) (turn k .loop-test .taken) _ _ (looked k) _ (c .before .if1 .taken) (c .over .ensures)
+
+full : tie.Need-returns-2 Inv-loop μ-loop
+full c =
+    let d = c .before .before in
+    let k = unit d in
+    turns.full _ _ _ _ _ _ _ _ (turn k .before .loop .inv) (turn k .loop-test .taken) _ _ (looked k) (d .before .if1 .left) _ (d .replied-of .ensures) _
+    (c .before .if2 .taken) (c .over2 .ensures)
+
+back-long : tie.Need-same-length-3 Inv-loop μ-loop
+back-long c =
+    let said = c .before .before .before .before .before .before in
+    let d = due (room said) in
+    let k = unit d in
+    turns.back-long _ _ _ _ _ _ _ _ (turn k .before .loop .inv) (turn k .loop-test .taken) _ _ (looked k) (d .before .if1 .left) _ (d .replied-of .ensures)
+    (room said .if2 .left) _ _ (said .answer .ensures)
+
+gives : tie.Need-returns-3 Inv-loop μ-loop
+gives c =
+    let said = c .before .before .before .before .before .before in
+    let d = due (room said) in
+    let k = unit d in
+    turns.gives _ _ _ _ _ _ _ _ (turn k .before .loop .inv) (turn k .loop-test .taken) _ _ (looked k) (d .before .if1 .left) _ (d .replied-of .ensures)
+    (room said .if2 .left) _ _ (said .answer .ensures) (λ e. c .before .if3 .taken (c .before .before .order-number .ensures ∙ e)) _ (c .over3 .ensures)
+
+goes : tie.Need-loop-again Inv-loop μ-loop
+goes c =
+    let said = c .before .before .before .before .before in
+    let d = due (room said) in
+    let k = unit d in
+    turns.goes _ _ _ _ _ _ _ _ (turn k .before .loop .inv) (turn k .loop-test .taken) _ _ (looked k) (d .before .if1 .left) _ (d .replied-of .ensures)
+    (room said .if2 .left) _ _ (said .answer .ensures) (sym (c .before .order-number .ensures) ∙ c .if3 .left)
+
+pub take-units-spec : {M : Type 1} → statement M
+take-units-spec =
+    tie.close
+    (tie.spec
+    Inv-loop
+    μ-loop
+    (λ c. turns.starts _ _ _ _)
+    (λ c. c .before .loop-test .taken)
+    (λ c κs. search needs)
+    (λ c κs. search needs)
+    (λ c κs. search needs)
+    (λ c. turn c .before .loop .inv .at)
+    (λ c κs. (turn (c .before) .before .loop .inv .at, omega arith, omega (arith, c .if1 .taken, turns.most (looked (c .before)))))
+    (λ c. turn (c .before .before) .before .loop .inv .long)
+    unfinished
+    (λ c κs. search needs)
+    (λ c. omega (arith, turn (unit c) .before .loop .inv .room, turn (unit c) .before .loop .inv .long))
+    (λ c. omega arith)
+    (λ c. omega (arith, turns.some (looked (unit (c .before)))))
+    (λ c κs.
+    let it = looked (unit (c .before)) in
+    (omega (arith, turns.some it), omega (arith, c .before .before .if1 .left), omega (arith, turns.most it)))
+    (λ c. turn (unit (c .before .before)) .before .loop .inv .long)
+    full
+    (λ c. omega arith)
+    (λ c. omega arith)
+    (λ c. omega arith)
+    (λ c. omega (arith, c .before .before .if1 .left, turn (unit (due c)) .before .loop .inv .at))
+    (λ c. let inv = turn (unit (due (c .before))) .before .loop .inv in omega (arith, inv .room, inv .long))
+    (λ c. let inv = turn (unit (due (c .before))) .before .loop .inv in omega (arith, inv .room, inv .long))
+    (λ c. omega arith)
+    (λ c κs. search needs)
+    (λ c.
+    let r = room (c .before .before .before) in
+    let loop = turn (unit (due r)) .before in
+    omega (arith, r .if2 .left, loop .loop .inv .room, loop .loop .inv .long, loop .before .before .before .good .1 .1 .1 .0 .0))
+    (λ c κs. search needs)
+    (λ c κs. (omega arith, omega arith, omega arith))
+    back-long
+    gives
+    (λ c. omega (arith, turns.some (looked (unit (due (room (c .before .before .before .before .before)))))))
+    goes
+    (λ c κs. (omega arith, c .before .loop .inv .at, omega arith))
+    (λ c. c .before .before .loop .inv .long)
+    (λ c. turns.ends _ _ _ _ _ _ _ _ (c .before .before .loop .inv) _ (c .before .loop-test .left) (c .over4 .ensures)))

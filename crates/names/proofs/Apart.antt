@@ -1,0 +1,23 @@
+-- No two names are one: each is of its own kind, by computation over the tables. Assumes nothing.
+use mathlib.Core.Path.{_≡_, refl}
+use mathlib.Core.List.{[], _∷_, map}
+use Rattle.keyed.specs.Keyed.{valueIn}
+use Rattle.sheet.specs.Sheet.{setTable, getTable}
+use Rattle.names.specs.Names.{namesOf, numbersOf, orderNames, orders, orderNumber, orderAt, kindOf}
+use Rattle.names.specs.declared.Kind.the-variants.{Set, Get, Gives}
+
+pub set-kinds : map kindOf (namesOf setTable) ≡ map Set (numbersOf setTable)
+unfolding kindOf valueIn
+set-kinds = refl
+
+pub get-kinds : map kindOf (namesOf getTable) ≡ map Get (numbersOf getTable)
+unfolding kindOf valueIn
+get-kinds = refl
+
+pub order-kinds : map kindOf orderNames ≡ map (λ k. Gives (orderAt k)) (1 ∷ 2 ∷ 3 ∷ 4 ∷ 5 ∷ 6 ∷ 7 ∷ [])
+unfolding kindOf valueIn
+order-kinds = refl
+
+-- an order's number is its place among the orders
+pub order-numbers : map orderNumber orders ≡ 0 ∷ 1 ∷ 2 ∷ 3 ∷ 4 ∷ 5 ∷ 6 ∷ 7 ∷ []
+order-numbers = refl

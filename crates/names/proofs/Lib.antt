@@ -1,0 +1,5 @@
+pub mod Lengths
+pub mod Need
+pub mod Named
+pub mod Apart
+pub mod One

@@ -1,0 +1,261 @@
+// The names of 01: what the first bytes of a unit say that it is, how long it is, and how long its answer.
+use brk::Brk;
+use eds::Eds;
+use eng::Eng;
+use hom::Hom;
+use mov::Mov;
+use pid::Pid;
+use pwr::Pwr;
+use sheet::names;
+ghost use mathlib.Core.Path.{_≡_};
+ghost use Rattle.sheet.specs.Sheet.{setTable, getTable};
+ghost use Rattle.names.specs.Names.{numberIn, totalIn, orderIn, orderAt, orderNumber, kindOf, kindFrom, span, replied};
+
+pub enum Order {
+    Nothing,
+    Stop,
+    Sstp,
+    Pwof,
+    Left,
+    Rigt,
+    Home,
+    Loft,
+}
+
+// A zero, a set or a get by its number, an order, or a name that nobody knows.
+pub enum Kind {
+    Zero,
+    Set(usize),
+    Get(usize),
+    Gives(Order),
+    Unknown,
+}
+
+// The tables of sheet 01 as lists: names, and beside each name its number and the total length of its frame.
+const SET_NAMES: [usize; 7] = [
+    Mov::SET as usize,
+    Eng::SET as usize,
+    Pwr::SET as usize,
+    Eds::SET as usize,
+    Hom::SET as usize,
+    Brk::SET as usize,
+    Pid::SET as usize,
+];
+
+const SET_NUMBERS: [usize; 7] = [1, 2, 3, 4, 5, 6, 7];
+
+const SET_TOTALS: [usize; 7] = [
+    Mov::TOTAL,
+    Eng::TOTAL,
+    Pwr::TOTAL,
+    Eds::TOTAL,
+    Hom::TOTAL,
+    Brk::TOTAL,
+    Pid::TOTAL,
+];
+
+const GET_NAMES: [usize; 7] = [
+    Mov::GET as usize,
+    Eng::GET as usize,
+    Pwr::GET as usize,
+    Eds::GET as usize,
+    Hom::GET as usize,
+    Brk::GET as usize,
+    Pid::GET as usize,
+];
+
+const GET_NUMBERS: [usize; 7] = [1, 2, 3, 4, 5, 6, 7];
+
+const GET_TOTALS: [usize; 7] = [
+    Mov::TOTAL,
+    Eng::TOTAL,
+    Pwr::TOTAL,
+    Eds::TOTAL,
+    Hom::TOTAL,
+    Brk::TOTAL,
+    Pid::TOTAL,
+];
+
+const ORDER_NAMES: [usize; 7] = [
+    names::STOP as usize,
+    names::SSTP as usize,
+    names::PWOF as usize,
+    names::LEFT as usize,
+    names::RIGT as usize,
+    names::HOME as usize,
+    names::LOFT as usize,
+];
+
+const ORDER_NUMBERS: [usize; 7] = [1, 2, 3, 4, 5, 6, 7];
+
+// The number of the set, the get or the order that has this name, or 0.
+fn set_named(name: u32) -> usize
+    ensures { λ r. ⌜ r ≡ numberIn setTable name ⌝ }
+{
+    keyed::value_of(name as usize, &SET_NAMES, &SET_NUMBERS, 0)
+}
+
+fn get_named(name: u32) -> usize
+    ensures { λ r. ⌜ r ≡ numberIn getTable name ⌝ }
+{
+    keyed::value_of(name as usize, &GET_NAMES, &GET_NUMBERS, 0)
+}
+
+fn order_named(name: u32) -> usize
+    ensures { λ r. ⌜ r ≡ orderIn name ⌝ }
+{
+    keyed::value_of(name as usize, &ORDER_NAMES, &ORDER_NUMBERS, 0)
+}
+
+// The total length of the set of this number; a number of none has name and CRC only.
+fn set_total(number: usize) -> usize
+    ensures { λ r. ⌜ r ≡ totalIn setTable number ⌝ }
+{
+    keyed::value_of(number, &SET_NUMBERS, &SET_TOTALS, 6)
+}
+
+// The total length of the answer to the get of this number.
+pub fn get_total(number: usize) -> usize
+    ensures { λ r. ⌜ r ≡ totalIn getTable number ⌝ }
+{
+    keyed::value_of(number, &GET_NUMBERS, &GET_TOTALS, 6)
+}
+
+// The order of a number; 0 and any other number give none. A match and no index: an array that is indexed is laid out at every call.
+fn order_at(number: usize) -> Order
+    ensures { λ r. ⌜ r ≡ orderAt number ⌝ }
+{
+    match number {
+        1 => {
+            return Order::Stop;
+        }
+        2 => {
+            return Order::Sstp;
+        }
+        3 => {
+            return Order::Pwof;
+        }
+        4 => {
+            return Order::Left;
+        }
+        5 => {
+            return Order::Rigt;
+        }
+        6 => {
+            return Order::Home;
+        }
+        7 => {
+            return Order::Loft;
+        }
+        _ => {
+            return Order::Nothing;
+        }
+    }
+}
+
+// 01's number of an order, 0 for none.
+pub fn order_number(order: Order) -> u8
+    ensures { λ r. ⌜ r ≡ orderNumber order ⌝ }
+{
+    match order {
+        Order::Nothing => {
+            return 0;
+        }
+        Order::Stop => {
+            return 1;
+        }
+        Order::Sstp => {
+            return 2;
+        }
+        Order::Pwof => {
+            return 3;
+        }
+        Order::Left => {
+            return 4;
+        }
+        Order::Rigt => {
+            return 5;
+        }
+        Order::Home => {
+            return 6;
+        }
+        Order::Loft => {
+            return 7;
+        }
+    }
+}
+
+// What a name says that its unit is.
+fn kind_named(name: u32) -> Kind
+    ensures { λ r. ⌜ r ≡ kindOf name ⌝ }
+{
+    let set = set_named(name);
+    if 0 < set {
+        return Kind::Set(set);
+    }
+    let get = get_named(name);
+    if 0 < get {
+        return Kind::Get(get);
+    }
+    let order = order_named(name);
+    if 0 < order {
+        return Kind::Gives(order_at(order));
+    }
+    Kind::Unknown
+}
+
+// What a unit is that begins with this byte, and this name from that byte on.
+pub fn kind_of(first: u8, name: u32) -> Kind
+    ensures { λ r. ⌜ r ≡ kindFrom first name ⌝ }
+{
+    if first == 0 {
+        return Kind::Zero;
+    }
+    kind_named(name)
+}
+
+// The length of a unit of this kind: a zero is by itself, a set has its block's total, any other is its name.
+pub fn span_of(kind: Kind) -> usize
+    ensures { λ r. ⌜ r ≡ span kind ⌝ }
+{
+    match kind {
+        Kind::Zero => {
+            return 1;
+        }
+        Kind::Set(k) => {
+            return set_total(k);
+        }
+        Kind::Get(_) => {
+            return 4;
+        }
+        Kind::Gives(_) => {
+            return 4;
+        }
+        Kind::Unknown => {
+            return 4;
+        }
+    }
+}
+
+// The length of the answer to a unit of this kind: a zero byte, a get's frame, or four letters.
+pub fn replied_of(kind: Kind) -> usize
+    ensures { λ r. ⌜ r ≡ replied kind ⌝ }
+{
+    match kind {
+        Kind::Zero => {
+            return 1;
+        }
+        Kind::Set(_) => {
+            return 4;
+        }
+        Kind::Get(k) => {
+            return get_total(k);
+        }
+        Kind::Gives(_) => {
+            return 4;
+        }
+        Kind::Unknown => {
+            return 4;
+        }
+    }
+}

@@ -1,0 +1,122 @@
+// The board: made in any state, called, told the time, shown. No other file reads or writes its fields. What is printed goes through functions that
+// hold no board: a statement beside a board makes a long proof.
+use crate::print;
+use names::Order;
+use state::Board;
+use unit::Notes;
+
+pub fn put(mut board: Board, number: usize, section: &[u8]) -> Board {
+    let mut memory = board.memory;
+    let settings = memory.settings;
+    memory.settings = settings.put(number, section);
+    board.memory = memory;
+    board
+}
+
+fn notes_in(numbers: &[u8]) -> Notes {
+    Notes {
+        flags: wire::u32_at(numbers, 0) as usize,
+        block: wire::u32_at(numbers, 4) as usize,
+        field: wire::u32_at(numbers, 8) as usize,
+    }
+}
+
+pub fn note(mut board: Board, numbers: &[u8]) -> Board {
+    let mut memory = board.memory;
+    memory.notes = notes_in(numbers);
+    board.memory = memory;
+    board
+}
+
+pub fn hold(mut board: Board, count: usize, stamp: u32, bytes: &[u8]) -> Board {
+    let mut held = [0u8; sheet::FRAME];
+    wire::copy(&mut held, 0, bytes);
+    board.held = held;
+    board.count = count;
+    board.stamp = stamp;
+    board
+}
+
+fn show_notes(notes: Notes) {
+    print::number(notes.flags);
+    print::number(notes.block);
+    print::number(notes.field);
+}
+
+fn show_line(held: &[u8], count: usize, stamp: u32) {
+    print::number(count);
+    print::front(held, count);
+    print::number(stamp as usize);
+    print::say(b"\n");
+}
+
+// What a call or a report leaves, the settings apart.
+fn show_rest(board: Board) -> Board {
+    let notes = board.memory.notes;
+    show_notes(notes);
+    show_line(&board.held, board.count, board.stamp);
+    board
+}
+
+// The reply, or the buffer's front where that is longer.
+fn show_reply(buffer: &[u8], written: usize, front: usize) {
+    if written < front {
+        print::front(buffer, front);
+    } else {
+        print::front(buffer, written);
+    }
+}
+
+fn show_call(number: u8, taken: usize, written: usize, order: Order) {
+    print::number(number as usize);
+    print::number(taken);
+    print::number(written);
+    print::number(names::order_number(order) as usize);
+}
+
+fn call_in(
+    board: Board,
+    front: usize,
+    room: usize,
+    stamp: u32,
+    piece: &[u8],
+    buffer: &mut [u8],
+) -> Board {
+    let size = print::within(buffer, room);
+    let call = receiver::receive(board, piece, stamp, &mut buffer[..size]);
+    let order = call.order;
+    show_call(call.number, call.taken, call.written, order);
+    show_reply(buffer, call.written, front);
+    show_rest(call.board)
+}
+
+pub fn call(board: Board, front: usize, room: usize, stamp: u32, piece: &[u8]) -> Board {
+    let mut buffer = print::buffer();
+    call_in(board, front, room, stamp, piece, &mut buffer)
+}
+
+pub fn report(board: Board, now: u32) -> Board {
+    let report = clock::report_time(board, now);
+    print::number(report.number as usize);
+    show_rest(report.board)
+}
+
+fn show_section(bad: usize, section: &[u8]) {
+    print::number(bad);
+    print::hexadecimal(section);
+    print::say(b"\n");
+}
+
+pub fn show_block(board: Board, number: usize) -> Board {
+    let settings = board.memory.settings;
+    let mut section = [0xeeu8; sheet::FRAME];
+    settings.get(number, &mut section);
+    show_section(settings.first_bad(number), &section);
+    board
+}
+
+pub fn show_held(board: Board) -> Board {
+    print::hexadecimal(&board.held);
+    print::say(b"\n");
+    board
+}

@@ -1,0 +1,149 @@
+// Plays cases from standard input on one board and prints what each gives. A case is data, so a new one needs no proof: cases/make.py writes the
+// cases (stdin) and, from a model of its own, what must be printed (stdout).
+//
+// A case is an operation (1 byte), number (1), room (2), stamp (4) and count (2), low byte first, and as many bytes as the count says:
+//
+//   "  say       prints the bytes as they are: the label of what follows
+//   f  fresh     the board is fresh
+//   p  put       the bytes are a data section, put into the block of this number unchecked
+//   n  note      flags, last refused block and field are three numbers of 4 bytes
+//   h  hold      the bytes are held, with zeros behind, the room is their count, and the stamp is the last one
+//   c  call      the bytes are the piece. Prints number, taken, written, order, the reply (or, if it is longer, that number of the buffer's bytes)
+//   r  report    the stamp is the time. Prints the number
+//   b  block     prints the first field out of range in the block of this number, 0 if none is, and its data section as a get sends it
+//   k  keeps     prints all the bytes that the board has room to hold, spare ones too
+//   g  get       the host writes the get of the block of this number. Prints number, length, the whole buffer
+//   s  set       the same with the set, the bytes being its data section
+//   o  order     the same with the order of this number
+//   a  answer    the host reads the bytes. Prints number, length, the answer's name and data section
+//   x  checksum  prints the CRC of the bytes
+//   i  integer   prints the stamp's low 16 bits as a signed number
+//
+// Behind what a call or a report prints: flags, last refused block and field, count of unfinished bytes, these bytes, last stamp. Buffers have as
+// many bytes as the room says, 256 at most, all ee before. Every operation that prints ends the line, but for `say`.
+// A get, a set or an order of a number that nobody has prints `no such number`.
+mod boards;
+mod hosts;
+mod leaves;
+mod print;
+
+use state::Board;
+ghost use Rattle.io.specs.Counts.{Counts};
+
+// What stands in front of a case's bytes.
+struct Head {
+    operation: u8,
+    number: usize,
+    room: usize,
+    stamp: u32,
+    count: usize,
+}
+
+fn head_of(case: &[u8]) -> Head {
+    Head {
+        operation: wire::u8_at(case, 0),
+        number: wire::u8_at(case, 1) as usize,
+        room: wire::u16_at(case, 2) as usize,
+        stamp: wire::u32_at(case, 4),
+        count: wire::u16_at(case, 8) as usize,
+    }
+}
+
+// A case without a board.
+fn show(head: Head, bytes: &[u8]) {
+    let operation = head.operation;
+    match operation {
+        b'"' => {
+            print::say(bytes);
+        }
+        b'g' => {
+            hosts::write_get(head.number, head.room);
+        }
+        b's' => {
+            hosts::write_set(head.number, head.room, bytes);
+        }
+        b'o' => {
+            hosts::write_order(head.number, head.room);
+        }
+        b'a' => {
+            hosts::read(bytes);
+        }
+        b'x' => {
+            leaves::checksum(bytes);
+        }
+        b'i' => {
+            leaves::integer(head.stamp);
+        }
+        _ => {
+            print::say(b"no operation\n");
+        }
+    }
+}
+
+// One case; the next board.
+fn step(head: Head, board: Board, bytes: &[u8]) -> Board {
+    let operation = head.operation;
+    match operation {
+        b'f' => {
+            return state::fresh();
+        }
+        b'p' => {
+            return boards::put(board, head.number, bytes);
+        }
+        b'n' => {
+            return boards::note(board, bytes);
+        }
+        b'h' => {
+            return boards::hold(board, head.room, head.stamp, bytes);
+        }
+        b'c' => {
+            return boards::call(board, head.number, head.room, head.stamp, bytes);
+        }
+        b'r' => {
+            return boards::report(board, head.stamp);
+        }
+        b'b' => {
+            return boards::show_block(board, head.number);
+        }
+        b'k' => {
+            return boards::show_held(board);
+        }
+        _ => {
+            show(head, bytes);
+            return board;
+        }
+    }
+}
+
+// Reads as many bytes as are asked for, if there are as many and there is room; how many those are.
+fn read_in(asked: usize, buffer: &mut [u8]) -> usize
+    ensures { λ r. ⌜ Counts r (now (buffer .exit)) ⌝ }
+{
+    let room = print::within(buffer, asked);
+    let got = io::read_full(0, &mut buffer[..room]);
+    print::within(buffer, got)
+}
+
+fn step_in(head: Head, board: Board, buffer: &mut [u8]) -> Board {
+    let count = read_in(head.count, buffer);
+    step(head, board, &buffer[..count])
+}
+
+fn step_behind(front: &[u8], board: Board) -> Board {
+    let mut bytes = print::buffer();
+    step_in(head_of(front), board, &mut bytes)
+}
+
+// Case after case, until there is none. The number bounds them, since nobody knows how long the input is.
+fn main() {
+    let mut board = state::fresh();
+    let mut left = 1000000usize;
+    while 0 < left {
+        let mut front = [0u8; 10];
+        if io::read_full(0, &mut front) < 10 {
+            return;
+        }
+        board = step_behind(&front, board);
+        left -= 1;
+    }
+}

@@ -1,0 +1,44 @@
+// What the program prints, to standard output, and the buffers it is printed of.
+ghost use mathlib.Core.Path.{_≡_};
+ghost use lib.ListN.{length};
+ghost use Rattle.io.specs.Counts.{Counts};
+
+pub fn say(text: &[u8]) {
+    io::write_all(1, text);
+}
+
+pub fn number(n: usize) {
+    say(b" ");
+    io::print_decimal(1, n as u64);
+}
+
+// The bytes in hexadecimal, or `-`.
+pub fn hexadecimal(part: &[u8]) {
+    let mut digits = [0u8; 512];
+    let n = text::write_reply(&mut digits, 0, part);
+    say(b" ");
+    say(&digits[..n]);
+}
+
+// The first n of the bytes, as many as there are.
+pub fn front(part: &[u8], n: usize) {
+    let end = within(part, n);
+    hexadecimal(&part[..end]);
+}
+
+// How many of n bytes a part has.
+pub fn within(part: &[u8], n: usize) -> usize
+    ensures { λ r. ⌜ Counts r (now (part .entry)) ⌝ }
+{
+    if n < part.len() {
+        return n;
+    }
+    part.len()
+}
+
+// What is lent to be written into.
+pub fn buffer() -> [u8; 256]
+    ensures { λ r. ⌜ 256 ≡ length r ⌝ }
+{
+    [0xeeu8; 256]
+}

@@ -1,0 +1,67 @@
+-- `receiver::run_line` meets its contract: the line is laid out, and the call on it is the call on the piece. Assumes nothing.
+use Prim.Native.Nat.{_+_, _≤_, _<_}
+use mathlib.Core.List.{_++_}
+use mathlib.Core.Path.{_≡_, sym}
+use native.Mathlib.Omega.{arith}
+use lib.ListN.{length, take, replicate}
+use lib.Seq.{length-take-le}
+use borrow.Author.Needs.{needs}
+use Rattle.sheet.specs.Lengths.{longestFrame, longestPiece}
+use Rattle.receiver.proofs.Lists.{line-long, line-is}
+use Rattle.receiver.proofs.Line as line
+use Rattle.receiver.proofs.run_line.Statement.{statement}
+use Rattle.receiver.proofs.run_line.Tie as tie
+
+-- ---- the line, laid out
+
+abbrev start : tie.After-line4 → tie.Start
+start k = k .before .before .before .before .before .before .before .before .before .before
+
+module _ (k : tie.After-line4) where
+  had-short : start k .args .had < longestFrame
+  had-short = line.had-short (start k .args .board) (start k .args .stamp) _ (start k .pre .1) (start k .pre .3)
+
+  room : start k .args .had + length (start k .args .piece .now) ≤ longestFrame + longestPiece
+  room = omega (arith, had-short, start k .pre .2)
+
+  long : length (k .before .copy2 .last .0) ≡ longestFrame + longestPiece
+  long = line-long (replicate (longestFrame + longestPiece) 0) (start k .args .board .held) (start k .args .piece .now) (k .before .before .before .before .copy .last .0) _ (start k .args .had) (k .before .before .before .before .copy .ensures) (k .before .copy2 .ensures)
+
+  laid-out : take (start k .args .had + length (start k .args .piece .now)) (k .before .copy2 .last .0) ≡ take (start k .args .had) (start k .args .board .held) ++ start k .args .piece .now
+  laid-out =
+      line-is (replicate (longestFrame + longestPiece) 0) (start k .args .board .held) (start k .args .piece .now) (k .before .before .before .before .copy .last .0) _ (start k .args .had) (k .before .before .before .before .copy .ensures) (k .before .copy2 .ensures)
+      (omega (arith, had-short, start k .pre .0)) (omega (arith, start k .pre .0)) room
+
+-- ---- what the call on it gives
+
+abbrev laid : tie.After-take-units → tie.After-line4
+laid k = k .before .before .before .before
+
+had-taken : tie.Need-sub-call
+had-taken c =
+    let said = c .before .before .before in
+    let s = start (laid said) in
+    line.had-taken (s .args .board) (s .args .stamp) _ (s .pre .1) (s .pre .3) (s .pre .0) _ _ _ _ (laid-out (laid said)) _ (said .take-units .ensures)
+
+returns : tie.Need-returns
+returns c =
+    let said = c .before .before .before in
+    let s = start (laid said) in
+    line.less-had (s .args .board) (s .args .stamp) _ (s .pre .1) (s .pre .3) (s .pre .0) _ _ _ _ (laid-out (laid said)) _ (said .take-units .ensures)
+
+pub run-line-spec : {M : Type 1} → statement M
+run-line-spec =
+    tie.close
+    (tie.spec
+    (λ c. search needs)
+    (λ c. search needs)
+    (λ c κs. search needs)
+    (λ c. search needs)
+    (λ c κs. search needs)
+    (λ c. omega (arith, room c))
+    (λ c. omega (arith, room (c .before), long (c .before)))
+    (λ c. sym (length-take-le _ _ (omega (arith, room (c .before .before), long (c .before .before)))))
+    (λ c κs. search needs)
+    had-taken
+    (λ c. search needs)
+    returns)

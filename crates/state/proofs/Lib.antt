@@ -1,0 +1,4 @@
+pub mod Padded
+pub mod Held
+pub mod Boards
+pub mod One

@@ -1,0 +1,27 @@
+-- When a board is sound. In quotation marks: sheet 01, "One call".
+use mathlib.Core.Bool.{Bool, cond}
+use mathlib.Core.List.{List}
+use Prim.Native.Nat.{ℕ}
+use lib.ListN.{take}
+use Rattle.names.specs.Names.{need}
+use Rattle.unit.specs.Protocol.{begun, soundState}
+use Rattle.state.specs.State.{stateOf}
+use Rattle.state.specs.declared.Board.{Board}
+use Rattle.state.specs.declared.Verdict.{Verdict}
+
+-- "A state is sound when its unfinished bytes are none or a true beginning of one unit .., every field lies in its range, the floats are finite, and
+-- the flags are at most 7." Spare bytes are no cause
+abbrev pub soundBoard : Board → Bool
+soundBoard b = soundState (stateOf b)
+
+-- THE VERDICT: 3 "the state is not sound", 0 "otherwise". "Any other public entry that takes a board state, now or later, answers 3 in the same way"
+abbrev pub refusalOf : Board → ℕ
+refusalOf b = cond (soundBoard b) 0 3
+
+-- how long the unit is that the bytes u begin, as far as they tell; 0 where they begin none
+abbrev pub wantedBy : List ℕ → ℕ
+wantedBy u = cond (begun u) (need u) 0
+
+-- the verdict as the code gives it
+abbrev pub verdictOf : Board → Verdict
+verdictOf b = record { number = refusalOf b; wants = cond (soundBoard b) (need (take (b .count) (b .held))) 0 }

@@ -1,0 +1,112 @@
+// The board: what it keeps between calls, when that is sound, and how it starts.
+use names::Order;
+use settings::Settings;
+use unit::Memory;
+use unit::Notes;
+ghost use mathlib.Core.List.{[]};
+ghost use mathlib.Core.Path.{_≡_};
+ghost use lib.ListN.{length, take};
+ghost use Rattle.rule.specs.Loop.{stateAt};
+ghost use Rattle.sheet.specs.Lengths.{longestFrame};
+ghost use Rattle.unit.specs.Protocol.{freshState};
+ghost use Rattle.state.specs.State.{boardOf};
+ghost use Rattle.state.specs.Sound.{wantedBy, verdictOf};
+
+// The bytes of the unfinished unit stand in front of held, and count tells how many.
+#[repr(C)]
+pub struct Board {
+    pub memory: Memory,
+    pub held: [u8; sheet::FRAME],
+    pub count: usize,
+    pub stamp: u32,
+}
+
+// What a call answers.
+pub struct Call {
+    pub board: Board,
+    pub taken: usize,
+    pub written: usize,
+    pub number: u8,
+    pub order: Order,
+}
+
+// What every public entry answers to a board, 0, or 3 where its state is not sound; and how long the unit is that a sound board has begun, as far
+// as its bytes tell, so that nobody looks it up again.
+pub struct Verdict {
+    pub number: u8,
+    pub wants: usize,
+}
+
+// How long the unit is that n bytes in held begin; 0 where they are neither none nor a true beginning of one unit.
+fn wanted(held: &[u8; sheet::FRAME], n: usize) -> usize
+    requires { ⌜ length (now held) ≡ longestFrame ⌝ }
+    ensures { λ r. ⌜ r ≡ wantedBy (take n (now (held .entry))) ⌝ }
+{
+    if n == 0 {
+        return 1;
+    }
+    if sheet::FRAME < n {
+        return 0;
+    }
+    if held[0] == 0 {
+        return 0;
+    }
+    if n < 4 {
+        return 4;
+    }
+    let kind = names::kind_of(held[0], wire::u32_at(held, 0));
+    let span = names::span_of(kind);
+    if span <= n {
+        return 0;
+    }
+    span
+}
+
+// 01's list of what a sound state is.
+pub fn judge(board: Board) -> Verdict
+    ensures { λ r. ⌜ r ≡ verdictOf board ⌝ }
+{
+    let n = board.count;
+    let wants = wanted(&board.held, n);
+    if wants != 0 {
+        if board.memory.notes.flags <= 7 {
+            let memory = board.memory;
+            let settings = memory.settings;
+            if settings.all_good() {
+                return Verdict { number: 0, wants };
+            }
+        }
+    }
+    Verdict {
+        number: 3,
+        wants: 0,
+    }
+}
+
+// A board with nothing unfinished.
+pub fn idle(memory: Memory, stamp: u32) -> Board
+    ensures { λ r. ⌜ r ≡ boardOf (stateAt memory [] stamp) ⌝ }
+{
+    Board {
+        memory,
+        held: [0u8; sheet::FRAME],
+        count: 0,
+        stamp,
+    }
+}
+
+// A board that has taken nothing yet.
+pub fn fresh() -> Board
+    ensures { λ r. ⌜ r ≡ boardOf freshState ⌝ }
+{
+    let notes = Notes {
+        flags: 0,
+        block: 0,
+        field: 0,
+    };
+    let memory = Memory {
+        settings: Settings::fresh(),
+        notes,
+    };
+    idle(memory, 0)
+}

@@ -1,0 +1,82 @@
+//! What a comparison has counted.
+
+use rivertosku::board::Number;
+use rivertosku::host::Answer;
+
+#[derive(Default)]
+pub struct Counts {
+    pub runs: usize,
+    pub units: usize,
+    /// Units by their answers: zero, errc, get, order, set, errd, errv.
+    pub kinds: [usize; 7],
+    pub calls: usize,
+    pub numbers: [usize; 4],
+    pub bytes: usize,
+    /// Reports of the time, those that dropped something, and those refused.
+    pub reports: usize,
+    pub dropped: usize,
+    pub unreported: usize,
+    /// Requests written, and those refused by 3 and 4.
+    pub written: usize,
+    pub unwritten: [usize; 2],
+    /// Answers read, and slices refused by 5 to 8.
+    pub read: usize,
+    pub unread: [usize; 4],
+}
+
+impl Counts {
+    pub fn call(&mut self, number: Number, taken: usize, units: usize) {
+        self.calls += 1;
+        self.units += units;
+        self.numbers[number as usize] += 1;
+        self.bytes += taken;
+    }
+
+    pub fn report(&mut self, number: Number, dropped: bool) {
+        self.reports += 1;
+        self.dropped += dropped as usize;
+        self.unreported += (number != Number::Accepted) as usize;
+    }
+
+    pub fn answer(&mut self, answer: &Answer) {
+        self.kinds[kind(answer)] += 1;
+    }
+
+    pub fn show(&self, seed: u64) {
+        let [_, one, two, three] = self.numbers;
+        let [zero, errc, get, order, set, errd, errv] = self.kinds;
+        let [out_of_range, too_short] = self.unwritten;
+        let [no_name, no_answer, cut, damaged] = self.unread;
+        println!(
+            "compared {} units ({set} sets, {get} gets, {order} orders, {errv} errv, {errd} errd, {errc} errc, {zero} zeros) in {} runs, \
+             {} calls of which {} refused ({one} by 1, {two} by 2, {three} by 3), {} bytes, {} reports of the time of which {} dropped \
+             something and {} were refused, {} requests written and {} refused ({out_of_range} by 3, {too_short} by 4), {} answers read \
+             and {} refused ({no_name} by 5, {no_answer} by 6, {cut} by 7, {damaged} by 8), seed {seed}",
+            self.units,
+            self.runs,
+            self.calls,
+            one + two + three,
+            self.bytes,
+            self.reports,
+            self.dropped,
+            self.unreported,
+            self.written,
+            out_of_range + too_short,
+            self.read,
+            no_name + no_answer + cut + damaged,
+        );
+    }
+}
+
+/// Where `Counts::kinds` counts an answer.
+fn kind(answer: &Answer) -> usize {
+    match answer {
+        Answer::Zero => 0,
+        Answer::Errc => 1,
+        Answer::Data(_) => 2,
+        Answer::OrderEcho(_) => 3,
+        Answer::SetEcho(_) => 4,
+        Answer::Errd => 5,
+        Answer::Errv => 6,
+    }
+}

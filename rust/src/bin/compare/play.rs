@@ -1,0 +1,150 @@
+//! A run on the library and on the second receiver and host, compared after each call and report.
+
+use crate::counts::Counts;
+use crate::hosts::read_reply;
+use crate::run::{hex, Change, Run, Step};
+use crate::runs::WIDEST;
+use rivertosku::board::{Board, Number, Parts, FRAME};
+use rivertosku::fault::Fault;
+use rivertosku::same;
+use rivertosku::second::Second;
+
+/// The step at which the two disagree, and what differs.
+pub struct Miss {
+    pub step: usize,
+    pub text: String,
+}
+
+/// The library's board and the second receiver, in the same state.
+struct Pair<'c> {
+    board: Board,
+    second: Second,
+    fault: Fault,
+    counts: &'c mut Counts,
+}
+
+/// The buffer goes on behind the widest room, to see that nothing is written there.
+const BUFFER: usize = WIDEST + 20;
+
+impl Pair<'_> {
+    /// One call of both; what differs, else how many bytes were taken and whether it was accepted.
+    fn call(&mut self, piece: &[u8], stamp: u32, room: usize) -> Result<(usize, bool), String> {
+        let (mut ours, mut theirs) = same::buffers::<BUFFER>(self.counts.calls);
+        let before = *self.board.parts();
+
+        let answer = self.board.receive(piece, stamp, &mut ours[..room]);
+        let (number, taken, order) = (answer.number, answer.taken, answer.order);
+        let a = (number as u8, taken, answer.reply.len(), order.map_or(0, |o| o as u8));
+        let out = match self.fault {
+            Fault::None => self.second.call(piece, stamp, &mut theirs[..room]),
+            fault => self.second.broken_call(fault, piece, stamp, &mut theirs[..room]),
+        };
+        let b = (out.number, out.taken, out.written, out.order);
+
+        self.counts.call(number, taken, out.units);
+        if a != b {
+            return Err(format!("number, taken, written, order: library {a:?}, second {b:?}"));
+        }
+        if ours != theirs {
+            return Err(format!("buffer: library {}, second {}", hex(&ours[..room]), hex(&theirs[..room])));
+        }
+        if let Some(text) = same::difference(&self.board, &self.second) {
+            return Err(text);
+        }
+        read_reply(&ours[..a.2], order, self.fault, self.counts)?;
+        kept(&before, self.board.parts(), taken)?;
+        Ok((taken, number == Number::Accepted))
+    }
+
+    /// The time reported to both, so long after the last byte; what differs.
+    fn report_clock(&mut self, wait: u32) -> Result<(), String> {
+        let mut expected = *self.board.parts();
+        let now = expected.stamp.wrapping_add(wait);
+
+        let number = self.board.report_clock(now);
+        let a = number as u8;
+        let b = match self.fault {
+            Fault::None => self.second.report_clock(now),
+            fault => self.second.broken_report_clock(fault, now),
+        };
+
+        let parts = self.board.parts();
+        let dropped = parts.count != expected.count;
+        self.counts.report(number, dropped);
+        if a != b {
+            return Err(format!("report at {now}, number: library {a}, second {b}"));
+        }
+        if let Some(text) = same::difference(&self.board, &self.second) {
+            return Err(format!("report at {now}, {text}"));
+        }
+        // The library's record besides: the very same, but for the unfinished bytes if they are dropped.
+        if dropped {
+            (expected.held, expected.count) = ([0; FRAME], 0);
+        }
+        if *parts != expected {
+            return Err(format!("report at {now}, the record: {parts:?}, not {expected:?}"));
+        }
+        Ok(())
+    }
+
+    /// A step's reports and calls, by turns; what differs.
+    fn offer(&mut self, step: &Step) -> Result<(), String> {
+        let mut rest = &step.piece[..];
+        loop {
+            for &wait in &step.reports {
+                self.report_clock(wait)?;
+            }
+            let (taken, accepted) = self.call(rest, step.stamp, step.room)?;
+            rest = &rest[taken..];
+            if rest.is_empty() || taken == 0 || !accepted {
+                return Ok(());
+            }
+        }
+    }
+
+    /// Puts both into this state.
+    fn put(&mut self, parts: Parts) {
+        self.board = Board::from_parts(parts);
+        self.second = same::second_of(&parts);
+    }
+
+    /// A step in the state that its change makes; what differs.
+    fn step(&mut self, step: &Step) -> Result<(), String> {
+        let Some(change) = &step.change else { return self.offer(step) };
+        let kept = (self.board.clone(), self.second.clone());
+        let mut parts = *self.board.parts();
+        change.apply(&mut parts);
+        self.put(parts);
+        self.offer(step)?;
+        if !matches!(change, Change::Spare(_)) {
+            (self.board, self.second) = kept;
+        }
+        Ok(())
+    }
+}
+
+/// The library's record besides: the very same if nothing is taken, else zeros behind the unfinished bytes.
+fn kept(before: &Parts, parts: &Parts, taken: usize) -> Result<(), String> {
+    if taken == 0 && parts != before {
+        return Err(format!("nothing is taken, the record changes: {before:?} to {parts:?}"));
+    }
+    if taken > 0 && parts.held[parts.count..].iter().any(|&byte| byte != 0) {
+        return Err(format!("spare bytes: {:?}", parts.held));
+    }
+    Ok(())
+}
+
+pub fn play(run: &Run, fault: Fault, counts: &mut Counts) -> Result<(), Miss> {
+    counts.runs += 1;
+    let mut pair = Pair { board: Board::fresh(), second: Second::fresh(), fault, counts };
+    if let Some(text) = same::difference(&pair.board, &pair.second) {
+        return Err(Miss { step: 0, text: format!("fresh boards: {text}") });
+    }
+    if let Some(parts) = run.start {
+        pair.put(parts);
+    }
+    for (number, step) in run.steps.iter().enumerate() {
+        pair.step(step).map_err(|text| Miss { step: number, text })?;
+    }
+    Ok(())
+}

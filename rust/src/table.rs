@@ -1,0 +1,290 @@
+//! 01's tables of blocks and orders, with 02's known flag bits. The second receiver, the second host and the generator share them. Written
+//! from the sheets, with no code or table of the library.
+
+use crate::second::crc;
+
+/// What a field takes, by its width in bytes.
+#[derive(Clone, Copy)]
+pub enum Field {
+    /// A whole number from the one to the other, signed if the field goes below zero.
+    Whole(usize, i128, i128),
+    /// Any of its known bits.
+    Flags(usize, u64),
+    /// A finite float.
+    Float,
+}
+
+const U8: Field = Field::Whole(1, 0, 0xFF);
+const U16: Field = Field::Whole(2, 0, 0xFFFF);
+const S16: Field = Field::Whole(2, -0x8000, 0x7FFF);
+const S32: Field = Field::Whole(4, -0x8000_0000, 0x7FFF_FFFF);
+const SPEED: Field = Field::Whole(4, 0, 100_000);
+const MICRO: Field = Field::Whole(2, -255, 255);
+const POSITIVE: Field = Field::Whole(2, 1, 0xFFFF);
+const ENGINE_FLAGS: Field = Field::Flags(2, 0xFF);
+const POWER_FLAGS: Field = Field::Flags(1, 0x07);
+const BORDER_FLAGS: Field = Field::Flags(1, 0x0F);
+const ENDER_FLAGS: Field = Field::Flags(1, 0x07);
+const HOME_FLAGS: Field = Field::Flags(2, 0x1FF);
+const BRAKE_FLAGS: Field = Field::Flags(1, 0x03);
+
+impl Field {
+    pub const fn width(self) -> usize {
+        match self {
+            Field::Whole(width, ..) | Field::Flags(width, _) => width,
+            Field::Float => 4,
+        }
+    }
+
+    pub fn has_flags(self) -> bool {
+        matches!(self, Field::Flags(..))
+    }
+
+    /// Whether the field takes these bytes, low byte first.
+    #[inline(always)]
+    pub fn takes(self, bytes: &[u8]) -> bool {
+        let mut wide = [0; 8];
+        wide[..self.width()].copy_from_slice(bytes);
+        let bits = u64::from_le_bytes(wide);
+        match self {
+            Field::Whole(width, low, high) => {
+                let unused = 64 - 8 * width;
+                let signed = (bits << unused) as i64 >> unused;
+                let value = if low < 0 { signed as i128 } else { bits as i128 };
+                low <= value && value <= high
+            }
+            Field::Flags(_, known) => bits & !known == 0,
+            // The exponent's bits are not all ones.
+            Field::Float => bits >> 23 & 0xFF != 0xFF,
+        }
+    }
+
+    /// On a fresh board: 0, or the smallest allowed value where 0 is not allowed.
+    fn fresh(self) -> i128 {
+        match self {
+            Field::Whole(_, low, _) => low.max(0),
+            Field::Flags(..) | Field::Float => 0,
+        }
+    }
+
+    /// The least and the most that its width could hold.
+    pub fn bounds(self) -> (i128, i128) {
+        let values = 1 << (8 * self.width());
+        match self {
+            Field::Whole(_, low, _) if low < 0 => (-values / 2, values / 2 - 1),
+            _ => (0, values - 1),
+        }
+    }
+}
+
+/// A block: its name behind the letter of a set or a get.
+pub struct Row {
+    pub name: &'static [u8; 3],
+    pub fields: &'static [Field],
+    pub reserved: usize,
+}
+
+/// The bytes of a name and of a CRC, which stand around a data section.
+const NAME: usize = 4;
+const CRC: usize = 2;
+
+impl Row {
+    /// Its set's name or its get's, by the letter in front.
+    pub fn named(&self, letter: u8) -> Vec<u8> {
+        [&[letter], &self.name[..]].concat()
+    }
+
+    /// The bytes of its fields, which the reserved ones follow.
+    pub const fn used(&self) -> usize {
+        let (mut sum, mut i) = (0, 0);
+        while i < self.fields.len() {
+            sum += self.fields[i].width();
+            i += 1;
+        }
+        sum
+    }
+
+    pub const fn total(&self) -> usize {
+        NAME + self.used() + self.reserved + CRC
+    }
+
+    /// The frame of this data section behind the set's name or the get's.
+    pub fn framed(&self, letter: u8, data: &[u8]) -> Vec<u8> {
+        [&self.named(letter), data, &crc(data).to_le_bytes()].concat()
+    }
+
+    /// The data section of a fresh board, less its reserved bytes.
+    pub fn fresh(&self) -> Vec<u8> {
+        self.fields.iter().flat_map(|field| field.fresh().to_le_bytes().into_iter().take(field.width())).collect()
+    }
+
+    /// The numbers of the fields that do not take what this data section holds.
+    pub fn bad_fields(&self, mut data: &[u8]) -> Vec<usize> {
+        let mut bad = vec![];
+        for (i, field) in self.fields.iter().enumerate() {
+            let (bytes, rest) = data.split_at(field.width());
+            data = rest;
+            if !field.takes(bytes) {
+                bad.push(i + 1);
+            }
+        }
+        bad
+    }
+}
+
+/// The test of a data section, field after field.
+struct Test<'d> {
+    data: &'d [u8; DATA],
+    /// The fields tested, and their bytes.
+    fields: usize,
+    bytes: usize,
+    /// The number of the first that is bad, or 0.
+    bad: usize,
+}
+
+impl<'d> Test<'d> {
+    #[inline(always)]
+    fn of(data: &'d [u8; DATA]) -> Test<'d> {
+        Test { data, fields: 0, bytes: 0, bad: 0 }
+    }
+
+    #[inline(always)]
+    fn field(self, field: Field) -> Test<'d> {
+        let (fields, bytes) = (self.fields + 1, self.bytes + field.width());
+        let bad = !field.takes(&self.data[self.bytes..bytes]);
+        Test { fields, bytes, bad: if bad && self.bad == 0 { fields } else { self.bad }, ..self }
+    }
+}
+
+/// The rows, and what the second receiver asks of them in every call: written out field by field and name by name, since a loop over the
+/// rows takes ten times as long.
+macro_rules! rows {
+    ($($number:literal $name:literal [$($field:expr),*] $reserved:literal;)*) => {
+        pub const BLOCKS: usize = [$($number),*].len();
+
+        pub const ROWS: [Row; BLOCKS] = [$(Row { name: $name, fields: &[$($field),*], reserved: $reserved }),*];
+
+        /// The number of the block that has this name.
+        #[inline(always)]
+        pub fn block_named(name: &[u8]) -> Option<usize> {
+            match name {
+                $($name => Some($number),)*
+                _ => None,
+            }
+        }
+
+        /// The number of the first field of a block that does not take what this data section holds, 0 if there is none.
+        #[inline(always)]
+        pub fn bad_field(block: usize, data: &[u8; DATA]) -> usize {
+            match block {
+                $($number => Test::of(data)$(.field($field))*.bad,)*
+                _ => 0,
+            }
+        }
+    };
+}
+
+// A block's number and name, its fields, how many bytes are reserved.
+rows! {
+    1 b"mov" [SPEED, U8, POSITIVE, POSITIVE, SPEED, U8] 10;
+    2 b"eng" [U16, Field::Whole(2, 15, 8000), Field::Whole(4, 1, 100_000), U8, ENGINE_FLAGS, S16, Field::Whole(1, 1, 9), POSITIVE] 12;
+    3 b"pwr" [Field::Whole(1, 0, 100), U16, U16, U16, POWER_FLAGS] 6;
+    4 b"eds" [BORDER_FLAGS, ENDER_FLAGS, S32, MICRO, S32, MICRO] 6;
+    5 b"hom" [SPEED, U8, SPEED, U8, S32, MICRO, HOME_FLAGS] 9;
+    6 b"brk" [U16, U16, U16, U16, BRAKE_FLAGS] 10;
+    7 b"pid" [U16, U16, U16, Field::Float, Field::Float, Field::Float] 24;
+}
+
+pub const ORDERS: [&[u8; 4]; 7] = [b"stop", b"sstp", b"pwof", b"left", b"rigt", b"home", b"loft"];
+
+/// The block that has this number.
+pub fn row(number: usize) -> &'static Row {
+    &ROWS[number - 1]
+}
+
+/// The number of the order that has this name.
+#[inline(always)]
+pub fn order_named(name: &[u8]) -> Option<usize> {
+    ORDERS.iter().position(|order| *order == name).map(|i| i + 1)
+}
+
+/// Each block's total.
+pub const TOTAL: [usize; BLOCKS] = {
+    let (mut totals, mut i) = ([0; BLOCKS], 0);
+    while i < BLOCKS {
+        totals[i] = ROWS[i].total();
+        i += 1;
+    }
+    totals
+};
+
+/// The longest total: of a set's frame and of an answer.
+pub const FRAME: usize = {
+    let (mut longest, mut i) = (0, 0);
+    while i < BLOCKS {
+        if TOTAL[i] > longest {
+            longest = TOTAL[i];
+        }
+        i += 1;
+    }
+    longest
+};
+
+/// The longest data section.
+pub const DATA: usize = FRAME - NAME - CRC;
+
+#[cfg(test)]
+mod tests {
+    use super::*;
+    use crate::generator::{self, Random};
+
+    /// The numbers and totals that 01 writes are those of the rows.
+    #[test]
+    fn totals() {
+        assert_eq!(TOTAL, [30, 34, 20, 26, 33, 25, 48]);
+        assert!((1..=BLOCKS).all(|number| block_named(row(number).name) == Some(number)));
+    }
+
+    /// "On a fresh board every field is 0, or the smallest allowed value where 0 is not allowed".
+    #[test]
+    fn fresh_data() {
+        let smallest = [(1, 5, 1), (1, 7, 1), (2, 2, 15), (2, 4, 1), (2, 13, 1), (2, 14, 1)];
+        for number in 1..=BLOCKS {
+            let mut data = vec![0; row(number).used()];
+            smallest.iter().filter(|case| case.0 == number).for_each(|case| data[case.1] = case.2);
+            assert_eq!(row(number).fresh(), data);
+        }
+    }
+
+    #[test]
+    fn eight_bytes() {
+        let signed = Field::Whole(8, i64::MIN as i128, i64::MAX as i128);
+        let unsigned = Field::Whole(8, 0, u64::MAX as i128);
+        assert_eq!(signed.bounds(), (-0x8000_0000_0000_0000, 0x7FFF_FFFF_FFFF_FFFF));
+        assert_eq!(unsigned.bounds(), (0, 0xFFFF_FFFF_FFFF_FFFF));
+        let narrow = Field::Whole(8, i64::MIN as i128 + 1, -1);
+        let positive = Field::Whole(8, 1, u64::MAX as i128 - 1);
+        // Bits, and whether the narrow and the positive one take them.
+        let cases = [(0, false, false), (1, false, true), (1 << 63, false, true), (1 << 63 | 1, true, true), (u64::MAX, true, false)];
+        for (bits, below, above) in cases {
+            let bytes = u64::to_le_bytes(bits);
+            assert!(signed.takes(&bytes) && unsigned.takes(&bytes));
+            assert_eq!((narrow.takes(&bytes), positive.takes(&bytes)), (below, above));
+        }
+        assert!(Field::Flags(8, 1 << 63).takes(&(1_u64 << 63).to_le_bytes()));
+        assert!(!Field::Flags(8, !(1 << 63)).takes(&(1_u64 << 63).to_le_bytes()));
+    }
+
+    /// Written out or by a loop, the first bad field is the same.
+    #[test]
+    fn first_bad_field() {
+        let mut random = Random(1);
+        for round in 0..10_000 {
+            let number = generator::any_block(&mut random);
+            let section = generator::data(&mut random, number, round % 4);
+            let mut data = [0; DATA];
+            data[..section.len()].copy_from_slice(&section);
+            assert_eq!(bad_field(number, &data), row(number).bad_fields(&section).first().copied().unwrap_or(0));
+        }
+    }
+}
