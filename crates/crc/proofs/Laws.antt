@@ -41,10 +41,14 @@ unfolding crcBits
 bits-lt zero r h = h
 bits-lt (suc n) r h = bit-lt (crcBits n r) (bits-lt n r h)
 
+pub byte-lt : (r b : ℕ) → r < 2 ^ 16 → b < 256 → crcByte r b < 2 ^ 16
+unfolding crcByte
+byte-lt r b h low = bits-lt 8 (bitXor r b) (xor-lt 16 r b h (omega arith))
+
 from-lt : (bs : List ℕ) (r : ℕ) → r < 2 ^ 16 → ((i : ℕ) → getD bs i 0 < 256) → crcFrom r bs < 2 ^ 16
-unfolding crcFrom crcByte
+unfolding crcFrom
 from-lt [] r h low = h
-from-lt (b ∷ bs) r h low = from-lt bs (crcByte r b) (bits-lt 8 (bitXor r b) (xor-lt 16 r b h (omega (arith, low 0)))) (λ i. low (suc i))
+from-lt (b ∷ bs) r h low = from-lt bs (crcByte r b) (byte-lt r b h (low 0)) (λ i. low (suc i))
 
 pub crc-lt : (bs : List ℕ) → ((i : ℕ) → getD bs i 0 < 256) → crcOf bs < 2 ^ 16
 crc-lt bs low = from-lt bs 0xFFFF (omega arith) low

@@ -75,9 +75,9 @@ byte-over r b h =
 unfoldable pub marked : ℕ → ℕ → ℕ
 marked x r = cond (eqb (ones x % 2) 1) (bitXor r 0xC001) r
 
--- the high byte so, and x shifted left by 6 and by 7 in 16 bits
+-- the high byte so, and x shifted left by 6 and by 7 in 32 bits
 unfoldable pub atOnce : ℕ → ℕ → ℕ
-atOnce high x = bitXor (bitXor (marked x high) (x * 2 ^ 6 % 2 ^ 16)) (x * 2 ^ 7 % 2 ^ 16)
+atOnce high x = bitXor (bitXor (marked x high) (x * 2 ^ 6 % 2 ^ 32)) (x * 2 ^ 7 % 2 ^ 32)
 
 marked-over : (x high : ℕ) → marked x high ≡ bitXor high (marked x 0)
 unfolding marked

@@ -2,14 +2,15 @@
 ghost use mathlib.Core.Path.{_≡_};
 ghost use Rattle.crc.specs.Crc.{crcByte, crcFrom, crcOf};
 
-// The step of one byte, the sheet's eight at once. Its callers know its promise only, so that its body can change under them.
-fn crc_byte(register: u16, byte: u8) -> u16
+// The step of one byte, the sheet's eight at once. Its callers know its promise only, so that its body can change under them. The register's 16
+// bits are in a word of 32: then nothing has to be cut off between two bytes.
+fn crc_byte(register: u32, byte: u8) -> u32
     ensures { λ r. ⌜ r ≡ crcByte register byte ⌝ }
 {
-    let x = (register ^ byte as u16) % 256;
+    let x = (register ^ byte as u32) % 256;
     let mut next = register >> 8;
     // Before the shifts and not behind them: the next byte waits for all that is done here in turn.
-    if u16::count_ones(x) % 2 == 1 {
+    if u32::count_ones(x) % 2 == 1 {
         next = next ^ 0xC001;
     }
     next ^ x << 6 ^ x << 7
@@ -19,11 +20,11 @@ fn crc_byte(register: u16, byte: u8) -> u16
 pub fn crc_from(register: u16, part: &[u8]) -> u16
     ensures { λ r. ⌜ r ≡ crcFrom register (now (part .entry)) ⌝ }
 {
-    let mut c = register;
+    let mut c = register as u32;
     for i in 0..part.len() {
         c = crc_byte(c, part[i]);
     }
-    c
+    c as u16
 }
 
 pub fn crc(part: &[u8]) -> u16

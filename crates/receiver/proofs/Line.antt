@@ -60,6 +60,11 @@ module _ (b : Board) (t had : ℕ) (begun : b .count < need (take (b .count) (b 
       by true e = let n : had ≡ 0 = is ∙ rw e in rw (e, n, lose-is m (take (b .count) (b .held)))
       by false e = let n : had ≡ b .count = is ∙ rw e in rw (e, n)
 
+  -- where none are held, the call on the piece is the call from its front
+  pub on-piece : had ≡ 0 → (piece before after : List ℕ) (r : Call) → Ran (accept protocol (stateAt m [] t) t (length before) piece) before r after
+      → Ran (accept protocol (ready protocol (stateOf b) t) t (length before) piece) before r after
+  on-piece none piece before after r got = rw (readied, none) got
+
   module _ (full : length (b .held) ≡ longestFrame) where
     pub had-long : length u ≡ had
     had-long = length-take-le had (b .held) (omega (arith, had-short))

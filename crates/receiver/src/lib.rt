@@ -43,12 +43,17 @@ fn beginning(held: [u8; sheet::FRAME], had: usize, piece: &[u8]) -> [u8; sheet::
     next
 }
 
-// The bytes held and the piece behind them are one line, whose first unit the bytes held begin. All of held is copied, spare bytes too, and
-// the piece is laid over those.
+// The bytes held and the piece behind them are one line, whose first unit the bytes held begin. Where none are held, the piece is the line. Else
+// all of held is copied, spare bytes too, and the piece is laid over those.
 fn run_line(board: Board, had: usize, piece: &[u8], stamp: u32, reply: &mut [u8]) -> Call
     requires { ⌜ (length (board .held) ≡ longestFrame) × (board .count < need (take (board .count) (board .held))) × (length (now piece) ≤ longestPiece) × (had ≡ cond (late stamp (board .stamp)) 0 (board .count)) ⌝ }
     ensures { λ r. ⌜ Ran (accept protocol (ready protocol (stateOf board) stamp) stamp (length (now (reply .entry))) (now (piece .entry))) (now (reply .entry)) r (now (reply .exit)) ⌝ }
 {
+    if had == 0 {
+        let memory = board.memory;
+        let call = line::take_units(memory, piece, stamp, reply);
+        return call;
+    }
     let held = board.held;
     let mut line = [0u8; LINE];
     wire::copy(&mut line, 0, &held);

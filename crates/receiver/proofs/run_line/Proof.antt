@@ -1,4 +1,4 @@
--- `receiver::run_line` meets its contract: the line is laid out, and the call on it is the call on the piece. Assumes nothing.
+-- `receiver::run_line` meets its contract: the piece is the line, or the line is laid out and the call on it is the call on the piece. Assumes nothing.
 use Prim.Native.Nat.{_+_, _≤_, _<_}
 use mathlib.Core.List.{_++_}
 use mathlib.Core.Path.{_≡_, sym}
@@ -12,10 +12,19 @@ use Rattle.receiver.proofs.Line as line
 use Rattle.receiver.proofs.run_line.Statement.{statement}
 use Rattle.receiver.proofs.run_line.Tie as tie
 
+-- ---- nothing is held: the piece is the line
+
+piece-is-line : tie.Need-returns
+piece-is-line c =
+    let said = c .before .before in
+    let test = said .before .before .before in
+    let s = test .before .before .before in
+    line.on-piece (s .args .board) (s .args .stamp) _ (s .pre .1) (s .pre .3) (test .if1 .taken) _ _ _ _ (said .take-units .ensures)
+
 -- ---- the line, laid out
 
 abbrev start : tie.After-line4 → tie.Start
-start k = k .before .before .before .before .before .before .before .before .before .before
+start k = k .before .before .before .before .before .before .before .before .before .before .before
 
 module _ (k : tie.After-line4) where
   had-short : start k .args .had < longestFrame
@@ -34,25 +43,28 @@ module _ (k : tie.After-line4) where
 
 -- ---- what the call on it gives
 
-abbrev laid : tie.After-take-units → tie.After-line4
+abbrev laid : tie.After-take-units2 → tie.After-line4
 laid k = k .before .before .before .before
 
 had-taken : tie.Need-sub-call
 had-taken c =
     let said = c .before .before .before in
     let s = start (laid said) in
-    line.had-taken (s .args .board) (s .args .stamp) _ (s .pre .1) (s .pre .3) (s .pre .0) _ _ _ _ (laid-out (laid said)) _ (said .take-units .ensures)
+    line.had-taken (s .args .board) (s .args .stamp) _ (s .pre .1) (s .pre .3) (s .pre .0) _ _ _ _ (laid-out (laid said)) _ (said .take-units2 .ensures)
 
-returns : tie.Need-returns
-returns c =
+less-had : tie.Need-returns-2
+less-had c =
     let said = c .before .before .before in
     let s = start (laid said) in
-    line.less-had (s .args .board) (s .args .stamp) _ (s .pre .1) (s .pre .3) (s .pre .0) _ _ _ _ (laid-out (laid said)) _ (said .take-units .ensures)
+    line.less-had (s .args .board) (s .args .stamp) _ (s .pre .1) (s .pre .3) (s .pre .0) _ _ _ _ (laid-out (laid said)) _ (said .take-units2 .ensures)
 
 pub run-line-spec : {M : Type 1} → statement M
 run-line-spec =
     tie.close
     (tie.spec
+    (λ c κs. search needs)
+    (λ c. search needs)
+    piece-is-line
     (λ c. search needs)
     (λ c. search needs)
     (λ c κs. search needs)
@@ -64,4 +76,4 @@ run-line-spec =
     (λ c κs. search needs)
     had-taken
     (λ c. search needs)
-    returns)
+    less-had)
