@@ -1,5 +1,5 @@
 -- Laws of the value beside a key: walked from the front, and what a value found says. Assumes nothing.
-use mathlib.Core.Path.{_≡_, refl}
+use mathlib.Core.Path.{_≡_, refl, sym, subst}
 use mathlib.Core.Bool.{Bool, true, false, cond}
 use mathlib.Core.List.{List, [], _∷_, map}
 use Prim.Native.Nat.{ℕ, _+_, _≤_, _<_}
@@ -55,3 +55,14 @@ value-key g k (v ∷ vs) h = by (eqb k (g v)) refl (value-key g k vs) h
         → 0 < cond b v (valueIn k (map g vs) vs 0) → k ≡ g (cond b v (valueIn k (map g vs) vs 0))
     by true e later h = eqb-true k (g v) e
     by false e later h = later h
+
+-- a test that passes of all keys passes of a key that is found
+pub key-all : (f : ℕ → Bool) (k d : ℕ) (ks vs : List ℕ) → T (all f ks) → (valueIn k ks vs d ≡ d → ⊥) → T (f k)
+unfolding valueIn
+key-all f k d [] vs u found = absurd (found refl)
+key-all f k d (a ∷ ks) [] u found = absurd (found refl)
+key-all f k d (a ∷ ks) (v ∷ vs) u found = by (eqb k a) refl (key-all f k d ks vs (rest f a ks u)) found
+  where
+    by : (b : Bool) → eqb k a ≡ b → ((valueIn k ks vs d ≡ d → ⊥) → T (f k)) → (cond b v (valueIn k ks vs d) ≡ d → ⊥) → T (f k)
+    by true e later other = subst (λ (n : ℕ). T (f n)) (sym (eqb-true k a e)) (first f a ks u)
+    by false e later other = later other

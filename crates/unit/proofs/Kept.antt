@@ -9,7 +9,6 @@ use lib.ListN.{getD}
 use borrow.Author.Tests.{eqb-true, eqb-false}
 use Rattle.wire.specs.Numbers.{leBytes}
 use Rattle.frame.specs.Frame.{dataIn, intact}
-use Rattle.sheet.specs.Names.{named}
 use Rattle.keyed.proofs.Values.{value-all}
 use Rattle.sheet.specs.Sheet.{setTable}
 use Rattle.settings.specs.Settings.{dataAt, putAt, badAt}
@@ -23,17 +22,12 @@ use Rattle.names.specs.declared.Kind.the-variants.{Zero, Set, Get, Gives, Unkno
 use Rattle.names.proofs.Named.{set-unit}
 use Rattle.unit.specs.Unit.{Event, gets, stored, does, act}
 use Rattle.unit.specs.Protocol.{protocol}
+use Rattle.unit.specs.Kept.{Refused, errc, errd, errv, Accepts, Echoed, Takes, Without}
 use Rattle.unit.specs.declared.Memory.{Memory}
 use Rattle.unit.proofs.Sets.{puts-damaged, puts-refused, puts-stored}
 use Rattle.unit.proofs.Replies.{act-kind}
 
 -- ---- accepted sets
-
--- the unit u, met with the memory m, is an accepted set of block k: "Otherwise all fields are stored"
-pub record Accepts (m : Memory) (u : List ℕ) (k : ℕ) : Type 0 where
-  pub kind : kindAt u ≡ Set k
-  pub crc : intact u ≡ true
-  pub good : badAt (putAt (m .settings) k (dataIn u)) k ≡ 0
 
 -- it is stored, "and the set name is the reply"
 pub accepted : (m : Memory) (u : List ℕ) (k : ℕ) → Accepts m u k → act m (whole u) ≡ stored m (nameIn setTable k) k (dataIn u)
@@ -41,40 +35,6 @@ unfolding does
 accepted m u k a =
     act-kind m u (Set k) (a .kind) ∙ puts-stored m k u (a .crc) (a .good)
     ∙ ap (λ (n : ℕ). stored m n k (dataIn u)) (set-unit u k (a .kind))
-
--- WHAT A UNIT DOES TO THE SETTINGS: it is an accepted set, or it alters none
-pub data Ends (m : Memory) (u : List ℕ) : Type 0 where
-  accepts : (k : ℕ) → Accepts m u k → Ends m u
-  keeps : act m (whole u) .next .settings ≡ m .settings → Ends m u
-
-module _ (m : Memory) (u : List ℕ) where
-  -- an answer that keeps the settings
-  same : (a : Said Order Memory) → act m (whole u) ≡ a → a .next .settings ≡ m .settings → Ends m u
-  same a e k = keeps (ap (λ (x : Said Order Memory). x .next .settings) e ∙ k)
-
-  set-ends : (k : ℕ) (b c : Bool) → kindAt u ≡ Set k → intact u ≡ b → eqb (badAt (putAt (m .settings) k (dataIn u)) k) 0 ≡ c → Ends m u
-  unfolding does
-  set-ends k true true e i g = accepts k (record { kind = e; crc = i; good = eqb-true _ 0 g })
-  set-ends k true false e i g = same _ (act-kind m u (Set k) e ∙ puts-refused m k u i (eqb-false _ 0 g)) refl
-  set-ends k false c e i g = same _ (act-kind m u (Set k) e ∙ puts-damaged m k u i) refl
-
-  kind-ends : (κ : Kind) → kindAt u ≡ κ → Ends m u
-  unfolding does gets
-  kind-ends Zero e = same _ (act-kind m u Zero e) refl
-  kind-ends (Set k) e = set-ends k (intact u) _ e refl refl
-  kind-ends (Get k) e = same _ (act-kind m u (Get k) e) refl
-  kind-ends (Gives o) e = same _ (act-kind m u (Gives o) e) refl
-  kind-ends Unknown e = same _ (act-kind m u Unknown e) refl
-
-  pub unit-ends : Ends m u
-  unit-ends = kind-ends (kindAt u) refl
-
--- ---- DEMAND 1: "A command refused on the wire (errc, errd, errv) alters no setting"
-
-pub data Refused (reply : List ℕ) : Type 0 where
-  errc : reply ≡ leBytes 4 (named "errc") → Refused reply
-  errd : reply ≡ leBytes 4 (named "errd") → Refused reply
-  errv : reply ≡ leBytes 4 (named "errv") → Refused reply
 
 -- a refusal begins with the letter e, and no set name does
 refused-first : (reply : List ℕ) → Refused reply → getD reply 0 0 ≡ 101
@@ -89,27 +49,76 @@ set-first k e =
     T-not (eqb (getD (leBytes 4 (nameIn setTable k)) 0 0) 101)
     (value-all (λ n. not (eqb (getD (leBytes 4 n) 0 0) 101)) k 0 (numbersOf setTable) (namesOf setTable) tt tt) (subst (λ (b : ℕ). T (eqb b 101)) (sym e) tt)
 
+module _ (m : Memory) (u : List ℕ) where
+  -- an answer that keeps the settings
+  Keeps : Type 0
+  Keeps = act m (whole u) .next .settings ≡ m .settings
+
+  same : (a : Said Order Memory) → act m (whole u) ≡ a → a .next .settings ≡ m .settings → Keeps
+  unfolding Keeps
+  same a e k = ap (λ (x : Said Order Memory). x .next .settings) e ∙ k
+
+  -- A SET of block k is accepted, or refused and nothing is stored
+  data SetEnds (k : ℕ) : Type 0 where
+    accepts : Accepts m u k → SetEnds k
+    refuses : Refused (act m (whole u) .reply) → Keeps → SetEnds k
+
+  set-ends : (k : ℕ) → kindAt u ≡ Set k → SetEnds k
+  unfolding does
+  set-ends k e = by (intact u) (eqb (badAt (putAt (m .settings) k (dataIn u)) k) 0) refl refl
+    where
+      by : (b c : Bool) → intact u ≡ b → eqb (badAt (putAt (m .settings) k (dataIn u)) k) 0 ≡ c → SetEnds k
+      by true true i g = accepts (record { kind = e; crc = i; good = eqb-true _ 0 g })
+      by true false i g =
+          let said = act-kind m u (Set k) e ∙ puts-refused m k u i (eqb-false _ 0 g) in
+          refuses (errv (ap (λ (x : Said Order Memory). x .reply) said)) (same _ said refl)
+      by false c i g =
+          let said = act-kind m u (Set k) e ∙ puts-damaged m k u i in
+          refuses (errd (ap (λ (x : Said Order Memory). x .reply) said)) (same _ said refl)
+
+  -- A SET WHOSE REPLY WAS ITS OWN NAME WAS ACCEPTED, and an accepted one is echoed
+  pub echoed : (k : ℕ) → Echoed m u k → Accepts m u k
+  echoed k h = by (set-ends k (h .kind))
+    where
+      by : SetEnds k → Accepts m u k
+      by (accepts a) = a
+      by (refuses r _) = absurd (set-first k (ap (λ (l : List ℕ). getD l 0 0) (sym (h .reply)) ∙ refused-first _ r))
+
+  pub accepts-echoed : (k : ℕ) → Accepts m u k → Echoed m u k
+  accepts-echoed k a = record { kind = a .kind; reply = ap (λ (x : Said Order Memory). x .reply) (accepted m u k a) }
+
+  -- WHAT A UNIT DOES TO THE SETTINGS: it is an accepted set, or it alters none
+  pub data Ends : Type 0 where
+    stores : (k : ℕ) → Accepts m u k → Ends
+    keeps : act m (whole u) .next .settings ≡ m .settings → Ends
+
+  unit-kind : (κ : Kind) → kindAt u ≡ κ → Ends
+  unfolding does gets Keeps
+  unit-kind Zero e = keeps (same _ (act-kind m u Zero e) refl)
+  unit-kind (Set k) e = by (set-ends k e)
+    where
+      by : SetEnds k → Ends
+      by (accepts a) = stores k a
+      by (refuses r h) = keeps h
+  unit-kind (Get k) e = keeps (same _ (act-kind m u (Get k) e) refl)
+  unit-kind (Gives o) e = keeps (same _ (act-kind m u (Gives o) e) refl)
+  unit-kind Unknown e = keeps (same _ (act-kind m u Unknown e) refl)
+
+  pub unit-ends : Ends
+  unit-ends = unit-kind (kindAt u) refl
+
+-- ---- DEMAND 1: "A command refused on the wire (errc, errd, errv) alters no setting"
+
 pub refused-keeps : (m : Memory) (u : List ℕ) → Refused (act m (whole u) .reply) → act m (whole u) .next .settings ≡ m .settings
 refused-keeps m u r = by (unit-ends m u)
   where
     by : Ends m u → act m (whole u) .next .settings ≡ m .settings
-    by (accepts k a) =
+    by (stores k a) =
         let e = ap (λ (x : Said Order Memory). getD (x .reply) 0 0) (accepted m u k a) in
         absurd (set-first k (sym e ∙ refused-first (act m (whole u) .reply) r))
     by (keeps e) = e
 
 -- ---- a block keeps its data until the next accepted set of it
-
--- the token x, met with the memory m, is an accepted set of block k
-abbrev pub Takes : Memory → Token Event → ℕ → Type 0
-Takes m (whole u) k = Accepts m u k
-Takes m (lost u) k = ⊥
-Takes m (seen e) k = ⊥
-
--- tokens from the memory m on, among which there is no accepted set of block k
-abbrev pub Without : ℕ → Memory → List (Token Event) → Type 0
-Without k m [] = Unit
-Without k m (x ∷ ks) = (Takes m x k → ⊥) × Without k (act m x .next) ks
 
 -- over one token: another block's set does not touch this one
 pub kept-one : (m : Memory) (x : Token Event) (k : ℕ) → (Takes m x k → ⊥) → dataAt (act m x .next .settings) k ≡ dataAt (m .settings) k
@@ -117,9 +126,9 @@ unfolding act
 kept-one m (whole u) k out = by (unit-ends m u)
   where
     by : Ends m u → dataAt (act m (whole u) .next .settings) k ≡ dataAt (m .settings) k
-    by (accepts j a) =
+    by (stores j a) =
         ap (λ (x : Said Order Memory). dataAt (x .next .settings) k) (accepted m u j a)
-        ∙ get-other (m .settings) k j (dataIn u) (λ e. out (rw e a))
+        ∙ get-other (m .settings) k j (dataIn u) (λ e. out (accepts-echoed m u k (rw e a)))
     by (keeps e) = ap (λ s. dataAt s k) e
 kept-one m (lost u) k out = refl
 kept-one m (seen e) k out = refl

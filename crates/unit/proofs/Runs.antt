@@ -5,8 +5,7 @@ use Prim.Native.Nat.{ℕ, _-_, _<_, _≤_}
 use native.Mathlib.Omega.{arith}
 use lib.ListN.{length, getD, length-take, length-drop}
 use Rattle.wire.specs.Layout.{sum}
-use Rattle.frame.specs.Frame.{framed, dataIn}
-use Rattle.sheet.specs.Sheet.{getTable}
+use Rattle.frame.specs.Frame.{dataIn}
 use Rattle.sheet.specs.Rows.{rowAt, widths, total, canonical}
 use Rattle.settings.specs.Settings.{dataAt}
 use Rattle.settings.proofs.Keep.{get-same, bad-put}
@@ -15,7 +14,7 @@ use Rattle.rule.specs.Framing.{Token, whole, unitsOf}
 use Rattle.rule.specs.Rule.{Said, deal, wholeRun}
 use Rattle.rule.proofs.Said.{deal-append}
 use Rattle.rule.proofs.Whole.{part-bytes, whole-long, whole-bytes}
-use Rattle.names.specs.Names.{kindAt, nameOf, nameIn, span, need}
+use Rattle.names.specs.Names.{kindAt, span, need}
 use Rattle.names.specs.declared.Order.{Order}
 use Rattle.names.specs.declared.Kind.the-variants.{Get}
 use Rattle.names.proofs.Lengths.{set-total}
@@ -25,13 +24,10 @@ use Rattle.unit.specs.Unit.{Event, gets, does, act}
 use Rattle.unit.specs.Protocol.{protocol}
 use Rattle.unit.specs.declared.Memory.{Memory}
 use Rattle.unit.proofs.Replies.{act-kind}
-use Rattle.unit.proofs.Kept.{Accepts, accepted, Without, kept}
+use Rattle.unit.specs.Kept.{Accepts, Echoed, Without, getReply}
+use Rattle.unit.proofs.Kept.{accepted, echoed, kept}
 
 -- ---- gets
-
--- "Get: reply the get name, data, CRC."
-abbrev pub getReply : ℕ → List ℕ → List ℕ
-getReply k d = framed (nameIn getTable k) d
 
 -- a get of block k sends what the block holds, and alters nothing
 pub got : (m : Memory) (g : List ℕ) (k : ℕ) → kindAt g ≡ Get k
@@ -80,17 +76,18 @@ run-got m₀ t r before after g k cut e =
 accepts-long : (m : Memory) (u : List ℕ) (k : ℕ) → Accepts m u k → need u ≡ length u → length u ≡ total (rowAt k)
 accepts-long m u k a e = sym e ∙ need-kind u (omega arith) ∙ ap span (a .kind) ∙ set-total k
 
--- in a run of bytes: the set u, then the get g of its block with no accepted set of the block between them
+-- in a run of bytes: the set u, which was echoed, then the get g of its block with no echoed set of the block between them
 pub run-get-after-set : (m₀ : Memory) (t : ℕ) (r : List (Item Event)) (before between after : List (Token Event)) (u g : List ℕ) (k : ℕ)
     → ((i : ℕ) → getD (bytes r) i 0 < 256)
     → unitsOf (protocol .cuts) (protocol .need) r .tokens ≡ before ++ (whole u ∷ between ++ (whole g ∷ after))
-    → let m = deal protocol m₀ before .next in Accepts m u k → Without k (act m (whole u) .next) between
+    → let m = deal protocol m₀ before .next in Echoed m u k → Without k (act m (whole u) .next) between
     → kindAt g ≡ Get k
     → let x = deal protocol m₀ (before ++ (whole u ∷ between)) in
     wholeRun protocol m₀ t r .reply ≡ x .reply ++ (getReply k (canonical (rowAt k) (dataIn u)) ++ deal protocol (x .next) after .reply)
 unfolding deal
-run-get-after-set m₀ t r before between after u g k b cut a w e =
+run-get-after-set m₀ t r before between after u g k b cut h w e =
     let m = deal protocol m₀ before .next in
+    let a = echoed m u k h in
     let x = deal protocol m₀ (before ++ (whole u ∷ between)) in
     let behind = between ++ (whole g ∷ after) in
     let low = whole-bytes (protocol .cuts) (protocol .need) need-law r before behind u cut b in

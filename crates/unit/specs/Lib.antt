@@ -1,2 +1,3 @@
 pub mod Unit
 pub mod Protocol
+pub mod Kept
