@@ -37,7 +37,7 @@ module _ {E : Type 0} (cuts : ℕ → E → Bool) (need : List ℕ → ℕ) wher
   settle-last : (u : List ℕ) (t : ℕ) → settle cuts need u t .line .last ≡ t
   settle-last u t = settle-either (λ (f : Fed E). f .line .last ≡ t) u t (λ _. refl) (λ _. refl)
 
-  feed-last : (u : List ℕ) (t : ℕ) (x : Item E) → feedOn cuts need u t x .line .last ≡ lastStamp t (x ∷ [])
+  pub feed-last : (u : List ℕ) (t : ℕ) (x : Item E) → feedOn cuts need u t x .line .last ≡ lastStamp t (x ∷ [])
   unfolding feedOn lastStamp
   feed-last [] t (byte s b) = settle-last (b ∷ []) s
   feed-last [] t (event e) = refl

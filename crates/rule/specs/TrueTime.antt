@@ -6,7 +6,8 @@ use mathlib.Core.Bool.{Bool}
 use mathlib.Core.List.{List, [], _∷_, _++_, map}
 use lib.ListN.{length, take, drop}
 use Rattle.rule.specs.Run.{Item, byte, event}
-use Rattle.rule.specs.Framing.{Token, whole, lost, seen, unitsOf}
+use Rattle.rule.specs.Framing.{Token, whole, lost, unitsOf}
+use Rattle.rule.specs.Facts.{spent}
 
 -- a byte, or a report of the time, and the millisecond it came at
 pub data Timed : Type 0 where
@@ -54,12 +55,9 @@ abbrev pub shown : ℕ → ℕ
 shown t = t % 4294967296
 
 module _ {E : Type 0} where
-  -- a run's tokens, and the times of its bytes, which they spend in sequence (`units-bytes`): those of each whole unit are close
-  abbrev pub WholeClose : List (Token E) → List ℕ → Type 0
-  WholeClose [] ts = Unit {0}
-  WholeClose (whole u ∷ ks) ts = Close (take (length u) ts) × WholeClose ks (drop (length u) ts)
-  WholeClose (lost u ∷ ks) ts = WholeClose ks (drop (length u) ts)
-  WholeClose (seen e ∷ ks) ts = WholeClose ks ts
+  -- when the bytes u that stand behind the tokens ks came: a run's tokens spend its bytes in sequence (`units-bytes`)
+  abbrev pub timesOf : List Timed → List (Token E) → List ℕ → List ℕ
+  timesOf run ks u = take (length u) (drop (length (spent ks)) (times run))
 
   module _ (clock : ℕ → E) where
     -- a run as the board is shown it; `clock s` is the report of the stamp s
@@ -70,9 +68,28 @@ module _ {E : Type 0} where
     abbrev pub stamped : List Timed → List (Item E)
     stamped r = map stamp r
 
-    -- WHAT THE MAIN LOOP HAS TO DO: while something is unfinished, it hands the board nothing from before the last byte, and the next byte or report
-    -- within `longestSilence` of the last one
-    abbrev pub Watched : (ℕ → E → Bool) → (List ℕ → ℕ) → List Timed → Type 0
-    Watched cuts need run =
-        (q r : List Timed) (x : Timed) → run ≡ q ++ x ∷ r → 0 < length (unitsOf cuts need (stamped q) .unfinished)
-        → (lastByte 0 q ≤ timeOf x) × (timeOf x ≤ lastTime 0 q + longestSilence)
+    module _ (cuts : ℕ → E → Bool) (need : List ℕ → ℕ) (run : List Timed) where
+      -- WHAT THE MAIN LOOP HAS TO DO: while something is unfinished, it hands the board nothing from before the last byte, and the next byte or report
+      -- within `longestSilence` of the last one
+      abbrev pub Watched : Type 0
+      Watched =
+          (q r : List Timed) (x : Timed) → run ≡ q ++ x ∷ r → 0 < length (unitsOf cuts need (stamped q) .unfinished)
+          → (lastByte 0 q ≤ timeOf x) × (timeOf x ≤ lastTime 0 q + longestSilence)
+
+      -- each whole unit u of the run: none of its bytes came more than 400 ms after the one before it
+      abbrev pub WholeClose : Type 0
+      WholeClose = (ks ls : List (Token E)) (u : List ℕ) → unitsOf cuts need (stamped run) .tokens ≡ ks ++ whole u ∷ ls → Close (timesOf run ks u)
+
+      -- u, behind the tokens ks, was dropped for a wait that was true: at a place of the run, ks was all that had been complete and u was unfinished, and
+      -- the next byte or report came more than 400 ms after the last byte
+      pub record Waited (ks : List (Token E)) (u : List ℕ) : Type 0 where
+        pub before : List Timed
+        pub next : Timed
+        pub behind : List Timed
+        pub place : run ≡ before ++ next ∷ behind
+        pub held : unitsOf cuts need (stamped before) ≡ record { tokens = ks; unfinished = u }
+        pub long : lastByte 0 before + 400 < timeOf next
+
+      -- each beginning u that was dropped had waited
+      abbrev pub LostWaited : Type 0
+      LostWaited = (ks ls : List (Token E)) (u : List ℕ) → unitsOf cuts need (stamped run) .tokens ≡ ks ++ lost u ∷ ls → Waited ks u
