@@ -7,14 +7,14 @@ use native.Mathlib.Omega.{arith}
 use lib.ListN.{length}
 use borrow.Author.Tests.{lt-ltb}
 use Rattle.rule.specs.Run.{Item, byte, event, late}
-use Rattle.rule.specs.Framing.{unitsOf}
 use Rattle.rule.specs.Rule.{Said, quiet, then, State, deal, wholeRun}
 use Rattle.rule.specs.Step.{feedOn, feed, step, steps}
 use Rattle.rule.specs.Loop.{stateAt}
-use Rattle.rule.specs.TrueTime.{Timed, times, WholeClose, stamped, Watched}
+use Rattle.rule.specs.TrueTime.{Timed, Watched, WholeClose, LostWaited}
 use Rattle.rule.proofs.Choice.{either}
 use Rattle.rule.proofs.Steps.{steps-append, steps-is-whole}
 use Rattle.rule.proofs.TrueTime.{true-time}
+use Rattle.rule.proofs.Dropped.{true-wait}
 use Rattle.names.specs.declared.Order.{Order}
 use Rattle.names.proofs.Need.{need-some, need-law}
 use Rattle.unit.specs.Unit.{Event, clock, act}
@@ -80,8 +80,12 @@ none-overdue (event (clock now) ∷ r) s h =
     ap (λ (a : Said Order (State Memory)). then a (λ c. steps protocol c r)) (clock-step s now) ∙ rw (h .0) (none-overdue r s (h .1))
 
 -- ---- WHY THE TIME IS REPORTED
--- A run in true time whose main loop does its part (`Watched`): each whole unit that the rule finds in it came without a wait of more than 400 ms
--- of true time, however often the counter came round
-pub in-true-time : (run : List Timed) → Watched clock (protocol .cuts) (protocol .need) run
-    → WholeClose (unitsOf (protocol .cuts) (protocol .need) (stamped clock run) .tokens) (times run)
-in-true-time = true-time clock (protocol .cuts) (protocol .need) need-law (λ last now. refl)
+-- A run in true time whose main loop does its part: however often the counter came round
+module _ (run : List Timed) (w : Watched clock (protocol .cuts) (protocol .need) run) where
+  -- each whole unit that the rule finds in it came without a wait of more than 400 ms of true time,
+  pub in-true-time : WholeClose clock (protocol .cuts) (protocol .need) run
+  in-true-time = true-time clock (protocol .cuts) (protocol .need) need-law (λ last now. refl) run w
+
+  -- and behind each beginning that it finds dropped, a byte or report came after such a wait
+  pub after-true-wait : LostWaited clock (protocol .cuts) (protocol .need) run
+  after-true-wait = true-wait clock (protocol .cuts) (protocol .need) (λ last now. refl) need-law run w

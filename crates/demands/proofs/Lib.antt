@@ -1,3 +1,4 @@
 pub mod Calls
 pub mod Reports
 pub mod Runs
+pub mod Times

@@ -16,3 +16,4 @@ pub mod Largest
 pub mod Numbered
 pub mod Spread
 pub mod TrueTime
+pub mod Dropped

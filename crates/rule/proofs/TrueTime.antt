@@ -6,15 +6,15 @@ use mathlib.Core.List.{List, [], _∷_, _++_, append-assoc}
 use native.Mathlib.Omega.{arith}
 use lib.ListN.{length, take, drop, length-append}
 use lib.Seq.{take-append-seam, drop-append-seam, drop-drop}
-use borrow.Author.Tests.{ltb-true, ltb-false}
-use Rattle.rule.specs.Run.{byte, event, wait, late, lastStamp}
-use Rattle.rule.specs.Framing.{Needs, Token, whole, lost, seen, Cut, unitsOf}
+use borrow.Author.Tests.{ltb-false}
+use Rattle.rule.specs.Run.{byte, wait, late}
+use Rattle.rule.specs.Framing.{Needs, Token, whole, lost, seen, Cut}
 use Rattle.rule.specs.Rule.{Line}
-use Rattle.rule.specs.Step.{Fed, join, cutOf, settle, feedOn, feed, feeds}
+use Rattle.rule.specs.Step.{Fed, join, settle, feedOn, feed, feeds}
 use Rattle.rule.specs.Facts.{spent}
-use Rattle.rule.specs.TrueTime.{Timed, byteAt, reportAt, timeOf, times, byteTime, lastByte, lastTime, CloseTo, Close, longestSilence, shown, timesOf, stamp, stamped, Watched, WholeClose, Waited, LostWaited}
+use Rattle.rule.specs.TrueTime.{Timed, byteAt, reportAt, timeOf, times, byteTime, lastByte, lastTime, CloseTo, Close, longestSilence, shown, stamp, stamped, Watched, WholeClose}
 use Rattle.rule.proofs.Choice.{eitherBy}
-use Rattle.rule.proofs.Framing.{settle-either, feed-last, feeds-is-units}
+use Rattle.rule.proofs.Framing.{settle-either, feeds-is-units}
 
 -- ---- times
 
@@ -27,11 +27,6 @@ wait-true later earlier h k = omega arith
 not-late : (later earlier : ℕ) → earlier ≤ later → later < earlier + 4294967296 → late (shown later) (shown earlier) ≡ false → later ≤ earlier + 400
 unfolding late
 not-late later earlier h k e = omega (arith, ltb-false 400 (wait (shown later) (shown earlier)) e, wait-true later earlier h k)
-
--- what is late truly waited
-truly-late : (later earlier : ℕ) → earlier ≤ later → late (shown later) (shown earlier) ≡ true → earlier + 400 < later
-unfolding late wait
-truly-late later earlier h e = omega (arith, ltb-true 400 (wait (shown later) (shown earlier)) e)
 
 -- the last of the times t ∷ ts
 abbrev lastOf : ℕ → List ℕ → ℕ
@@ -64,31 +59,6 @@ module _ {E : Type 0} where
   one-close (lost v ∷ ks) ls u ts h = on-past u v (spent ks) ts (one-close ks ls u (drop (length v) ts) h)
   one-close (seen e ∷ ks) ls u ts h = one-close ks ls u ts h
 
--- what holds of each dropped beginning in tokens: P of the tokens before it, and of it
-module _ {E : Type 0} where
-  abbrev IfLost : (List (Token E) → List ℕ → Type 0) → Token E → Type 0
-  IfLost P (whole u) = Unit {0}
-  IfLost P (lost u) = P [] u
-  IfLost P (seen e) = Unit {0}
-
-  abbrev EachLost : (List (Token E) → List ℕ → Type 0) → List (Token E) → Type 0
-  EachLost P [] = Unit {0}
-  EachLost P (k ∷ ks) = IfLost P k × EachLost (λ ls u. P (k ∷ ls) u) ks
-
-  one-lost : (P : List (Token E) → List ℕ → Type 0) (ks ls : List (Token E)) (u : List ℕ) → EachLost P (ks ++ lost u ∷ ls) → P ks u
-  one-lost P [] ls u h = h .0
-  one-lost P (k ∷ ks) ls u h = one-lost (λ js v. P (k ∷ js) v) ks ls u (h .1)
-
-  lost-append : (P : List (Token E) → List ℕ → Type 0) (ks ls : List (Token E)) → EachLost P ks → EachLost (λ js u. P (ks ++ js) u) ls → EachLost P (ks ++ ls)
-  lost-append P [] ls h k = k
-  lost-append P (j ∷ ks) ls h k = (h .0, lost-append (λ js v. P (j ∷ js) v) ks ls (h .1) k)
-
-  lost-map : (P Q : List (Token E) → List ℕ → Type 0) → ((ks : List (Token E)) (u : List ℕ) → P ks u → Q ks u) → (ls : List (Token E)) → EachLost P ls → EachLost Q ls
-  lost-map P Q f [] h = tt
-  lost-map P Q f (whole v ∷ ls) h = (tt, lost-map (λ js u. P (whole v ∷ js) u) (λ js u. Q (whole v ∷ js) u) (λ js u. f (whole v ∷ js) u) ls (h .1))
-  lost-map P Q f (lost v ∷ ls) h = (f [] v (h .0), lost-map (λ js u. P (lost v ∷ js) u) (λ js u. Q (lost v ∷ js) u) (λ js u. f (lost v ∷ js) u) ls (h .1))
-  lost-map P Q f (seen e ∷ ls) h = (tt, lost-map (λ js u. P (seen e ∷ js) u) (λ js u. Q (seen e ∷ js) u) (λ js u. f (seen e ∷ js) u) ls (h .1))
-
 -- a unit u whose bytes came at us, before ts
 module _ {E : Type 0} (u us ts : List ℕ) (same : length u ≡ length us) (ks : List (Token E)) where
   unit-close : Close us → SpentClose ks ts → SpentClose (whole u ∷ ks) (us ++ ts)
@@ -99,11 +69,11 @@ module _ {E : Type 0} (u us ts : List ℕ) (same : length u ≡ length us) (ks :
 
 module _ {E : Type 0} (clock : ℕ → E) (cuts : ℕ → E → Bool) (need : List ℕ → ℕ) where
   -- nothing is unfinished, the last stamp is t
-  abbrev idle : ℕ → Line
+  abbrev pub idle : ℕ → Line
   idle t = record { unfinished = []; last = t }
 
   -- ---- the main loop's part, item by item: from the line l, the last byte came at b and the last item at p
-  abbrev WatchedFrom : Line → ℕ → ℕ → List Timed → Type 0
+  abbrev pub WatchedFrom : Line → ℕ → ℕ → List Timed → Type 0
   WatchedFrom l b p [] = Unit {0}
   WatchedFrom l b p (x ∷ r) =
       (0 < length (l .unfinished) → (b ≤ timeOf x) × (timeOf x ≤ p + longestSilence))
@@ -125,7 +95,7 @@ module _ {E : Type 0} (clock : ℕ → E) (cuts : ℕ → E → Bool) (need : Li
   time-on t (y ∷ q) x = time-on (timeOf y) q x
 
   module _ (law : Needs need) where
-    watched-from : (r q : List Timed) → Watched clock cuts need (q ++ r)
+    pub watched-from : (r q : List Timed) → Watched clock cuts need (q ++ r)
         → WatchedFrom (feeds cuts need (idle 0) (stamped clock q) .line) (lastByte 0 q) (lastTime 0 q) r
     watched-from [] q w = tt
     watched-from (x ∷ r) q w =
@@ -198,60 +168,3 @@ module _ {E : Type 0} (clock : ℕ → E) (cuts : ℕ → E → Bool) (need : Li
       true-time run w ks ls u e =
           let same = ap (λ (c : Cut E). c .tokens) (feeds-is-units cuts need law (stamped clock run) 0) ∙ e in
           one-close ks ls u (times run) (subst (λ (js : List (Token E)). SpentClose js (times run)) same (both run .0 0 0 0 (watched-from run [] w)))
-
-      -- ---- the other half. From the line l, the last byte at b, a run comes to a place where ks has become of it and u is unfinished, and the next item
-      -- comes more than 400 ms after the last byte
-      abbrev Place : Line → ℕ → List Timed → List (Token E) → List ℕ → Type 0
-      Place l b run ks u =
-          (q : List Timed) × (x : Timed) × (r : List Timed) × (run ≡ q ++ x ∷ r)
-          × (cutOf (feeds cuts need l (stamped clock q)) ≡ record { tokens = ks; unfinished = u }) × (lastByte b q + 400 < timeOf x)
-
-      place-on : (l : Line) (b : ℕ) (y : Timed) (r : List Timed) → let f = feed cuts need l (stamp clock y) in
-          (ks : List (Token E)) (u : List ℕ) → Place (f .line) (byteTime b y) r ks u → Place l b (y ∷ r) (f .tokens ++ ks) u
-      unfolding feeds
-      place-on l b y r ks u (q, x, s, e, c, h) =
-          (y ∷ q, x, s, ap (λ (z : List Timed). y ∷ z) e, ap (λ (d : Cut E). record { tokens = feed cuts need l (stamp clock y) .tokens ++ d .tokens; unfinished = d .unfinished }) c, h)
-
-      settle-none : (P : List (Token E) → List ℕ → Type 0) (u : List ℕ) (t : ℕ) → EachLost P (settle cuts need u t .tokens)
-      settle-none P u t = settle-either cuts need (λ (f : Fed E). EachLost P (f .tokens)) u t (λ _. (tt, tt)) (λ _. tt)
-
-      place-here : (x : Timed) (r : List Timed) (u : List ℕ) (t b : ℕ) → t ≡ shown b → (0 < length u → b ≤ timeOf x)
-          → EachLost (Place (record { unfinished = u; last = t }) b (x ∷ r)) (feedOn cuts need u t (stamp clock x) .tokens)
-      unfolding feeds feedOn
-      place-here (byteAt s y) r [] t b is w = settle-none _ (y ∷ []) (shown s)
-      place-here (reportAt s) r [] t b is w = (tt, tt)
-      place-here (byteAt s y) r (a ∷ u) t b is w =
-          eitherBy (λ (f : Fed E). EachLost (Place (record { unfinished = a ∷ u; last = t }) b (byteAt s y ∷ r)) (f .tokens)) (late (shown s) t) _ _
-          (λ e. (([], byteAt s y, r, refl, refl, truly-late s b (w (omega arith)) (rw (← is) e)), settle-none _ (y ∷ []) (shown s)))
-          (λ e. settle-none _ (a ∷ u ++ y ∷ []) (shown s))
-      place-here (reportAt s) r (a ∷ u) t b is w =
-          eitherBy (λ (f : Fed E). EachLost (Place (record { unfinished = a ∷ u; last = t }) b (reportAt s ∷ r)) (f .tokens)) (cuts t (clock (shown s))) _ _
-          (λ e. (([], reportAt s, r, refl, refl, truly-late s b (w (omega arith)) (rw (← is) (sym (clocks t (shown s)) ∙ e))), (tt, tt)))
-          (λ e. (tt, tt))
-
-      shown-on : (l : Line) (b : ℕ) (x : Timed) → l .last ≡ shown b → feed cuts need l (stamp clock x) .line .last ≡ shown (byteTime b x)
-      unfolding feed lastStamp
-      shown-on l b (byteAt s y) is = feed-last cuts need (l .unfinished) (l .last) (byte (shown s) y)
-      shown-on l b (reportAt s) is = feed-last cuts need (l .unfinished) (l .last) (event (clock (shown s))) ∙ is
-
-      places : (r : List Timed) (l : Line) (b p : ℕ) → l .last ≡ shown b → WatchedFrom l b p r → EachLost (Place l b r) (feeds cuts need l (stamped clock r) .tokens)
-      unfolding feeds feed
-      places [] l b p is w = tt
-      places (x ∷ r) l b p is w =
-          let f = feed cuts need l (stamp clock x) in
-          let rest = feeds cuts need (f .line) (stamped clock r) .tokens in
-          lost-append (Place l b (x ∷ r)) (f .tokens) rest
-          (place-here x r (l .unfinished) (l .last) b is (λ some. w .0 some .0))
-          (lost-map (Place (f .line) (byteTime b x) r) _ (place-on l b x r) rest (places r (f .line) (byteTime b x) (timeOf x) (shown-on l b x is) (w .1)))
-
-      place-waited : (run : List Timed) (ks : List (Token E)) (u : List ℕ) → Place (idle 0) 0 run ks u → Waited clock cuts need run ks u
-      place-waited run ks u (q, x, r, e, c, h) =
-          record { before = q; next = x; behind = r; place = e; held = sym (feeds-is-units cuts need law (stamped clock q) 0) ∙ c; long = h }
-
-      -- NOTHING IS DROPPED BUT FOR A WAIT OF MORE THAN 400 MS OF TRUE TIME
-      pub true-wait : (run : List Timed) → Watched clock cuts need run → LostWaited clock cuts need run
-      unfolding feeds
-      true-wait run w ks ls u e =
-          let same = ap (λ (c : Cut E). c .tokens) (feeds-is-units cuts need law (stamped clock run) 0) ∙ e in
-          let each = subst (EachLost (Place (idle 0) 0 run)) same (places run (idle 0) 0 0 refl (watched-from run [] w)) in
-          place-waited run ks u (one-lost (Place (idle 0) 0 run) ks ls u each)

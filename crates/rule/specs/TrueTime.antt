@@ -46,6 +46,10 @@ abbrev pub Close : List ℕ → Type 0
 Close [] = Unit {0}
 Close (t ∷ ts) = CloseTo t ts
 
+-- from t to s is a wait of more than 400 ms
+abbrev pub TooLong : ℕ → ℕ → Type 0
+TooLong s t = t + 400 < s
+
 -- 2^32 - 401 ms, the longest that the main loop may be silent while something is unfinished
 abbrev pub longestSilence : ℕ
 longestSilence = 4294966895
@@ -88,7 +92,7 @@ module _ {E : Type 0} where
         pub behind : List Timed
         pub place : run ≡ before ++ next ∷ behind
         pub held : unitsOf cuts need (stamped before) ≡ record { tokens = ks; unfinished = u }
-        pub long : lastByte 0 before + 400 < timeOf next
+        pub long : TooLong (timeOf next) (lastByte 0 before)
 
       -- each beginning u that was dropped had waited
       abbrev pub LostWaited : Type 0

@@ -1,0 +1,124 @@
+-- The other half of why the time is reported (02, P3): what was dropped had truly waited. Assumes nothing.
+use Prim.Native.Nat.{ℕ, _<_, _≤_}
+use mathlib.Core.Path.{_≡_, refl, ap, sym, subst, _∙_}
+use mathlib.Core.Bool.{Bool, true, false}
+use mathlib.Core.List.{List, [], _∷_, _++_}
+use native.Mathlib.Omega.{arith}
+use lib.ListN.{length}
+use borrow.Author.Tests.{ltb-true}
+use Rattle.rule.specs.Run.{byte, event, wait, late, lastStamp}
+use Rattle.rule.specs.Framing.{Needs, Token, whole, lost, seen, Cut}
+use Rattle.rule.specs.Rule.{Line}
+use Rattle.rule.specs.Step.{Fed, cutOf, settle, feedOn, feed, feeds}
+use Rattle.rule.specs.TrueTime.{Timed, byteAt, reportAt, timeOf, byteTime, lastByte, TooLong, shown, stamp, stamped, Watched, Waited, LostWaited}
+use Rattle.rule.proofs.Choice.{eitherBy}
+use Rattle.rule.proofs.Framing.{settle-either, feed-last, feeds-is-units}
+use Rattle.rule.proofs.TrueTime.{idle, WatchedFrom, watched-from}
+
+-- a counter that comes round shows no wait longer than the true one
+truly-late : (later earlier : ℕ) → earlier ≤ later → late (shown later) (shown earlier) ≡ true → TooLong later earlier
+unfolding late wait
+truly-late later earlier h e = omega (arith, ltb-true 400 (wait (shown later) (shown earlier)) e)
+
+-- ---- what holds of each dropped beginning in tokens: P of the tokens before it, and of it
+abbrev Fact : Type 0 → Type 1
+Fact E = List (Token E) → List ℕ → Type 0
+
+module _ {E : Type 0} where
+  -- of what stands behind the token k
+  abbrev behind : Token E → Fact E → Fact E
+  behind k P ks u = P (k ∷ ks) u
+
+  abbrev IfLost : Fact E → Token E → Type 0
+  IfLost P (whole u) = Unit {0}
+  IfLost P (lost u) = P [] u
+  IfLost P (seen e) = Unit {0}
+
+  abbrev EachLost : Fact E → List (Token E) → Type 0
+  EachLost P [] = Unit {0}
+  EachLost P (k ∷ ks) = IfLost P k × EachLost (behind k P) ks
+
+  one-lost : (P : Fact E) (ks ls : List (Token E)) (u : List ℕ) → EachLost P (ks ++ lost u ∷ ls) → P ks u
+  one-lost P [] ls u h = h .0
+  one-lost P (k ∷ ks) ls u h = one-lost (behind k P) ks ls u (h .1)
+
+  lost-append : (P : Fact E) (ks ls : List (Token E)) → EachLost P ks → EachLost (λ js u. P (ks ++ js) u) ls → EachLost P (ks ++ ls)
+  lost-append P [] ls h k = k
+  lost-append P (j ∷ ks) ls h k = (h .0, lost-append (behind j P) ks ls (h .1) k)
+
+  if-map : (P Q : Fact E) → ((ks : List (Token E)) (u : List ℕ) → P ks u → Q ks u) → (k : Token E) → IfLost P k → IfLost Q k
+  if-map P Q f (whole u) h = tt
+  if-map P Q f (lost u) h = f [] u h
+  if-map P Q f (seen e) h = tt
+
+  lost-map : (P Q : Fact E) → ((ks : List (Token E)) (u : List ℕ) → P ks u → Q ks u) → (ls : List (Token E)) → EachLost P ls → EachLost Q ls
+  lost-map P Q f [] h = tt
+  lost-map P Q f (k ∷ ls) h = (if-map P Q f k (h .0), lost-map (behind k P) (behind k Q) (λ ks u. f (k ∷ ks) u) ls (h .1))
+
+module _ {E : Type 0} (clock : ℕ → E) (cuts : ℕ → E → Bool) (need : List ℕ → ℕ) where
+  -- from the line l, the last byte at b, the run comes to a place where ks are complete and u is unfinished, and the next item comes too long after the
+  -- last byte
+  abbrev Place : Line → ℕ → List Timed → Fact E
+  Place l b run ks u =
+      (q : List Timed) × (x : Timed) × (r : List Timed) × (run ≡ q ++ x ∷ r)
+      × (cutOf (feeds cuts need l (stamped clock q)) ≡ record { tokens = ks; unfinished = u }) × TooLong (timeOf x) (lastByte b q)
+
+  -- such a place behind the item y is one of the run with y
+  place-on : (l : Line) (b : ℕ) (y : Timed) (r : List Timed) → let f = feed cuts need l (stamp clock y) in
+      (ks : List (Token E)) (u : List ℕ) → Place (f .line) (byteTime b y) r ks u → Place l b (y ∷ r) (f .tokens ++ ks) u
+  unfolding feeds
+  place-on l b y r ks u (q, x, s, e, c, h) =
+      let front = feed cuts need l (stamp clock y) .tokens in
+      (y ∷ q, x, s, ap (λ (z : List Timed). y ∷ z) e, ap (λ (d : Cut E). record { tokens = front ++ d .tokens; unfinished = d .unfinished }) c, h)
+
+  settle-none : (P : Fact E) (u : List ℕ) (t : ℕ) → EachLost P (settle cuts need u t .tokens)
+  settle-none P u t = settle-either cuts need (λ (f : Fed E). EachLost P (f .tokens)) u t (λ _. (tt, tt)) (λ _. tt)
+
+  -- the last stamp is the last byte's time, as shown
+  shown-on : (l : Line) (b : ℕ) (x : Timed) → l .last ≡ shown b → feed cuts need l (stamp clock x) .line .last ≡ shown (byteTime b x)
+  unfolding feed lastStamp
+  shown-on l b (byteAt s y) is = feed-last cuts need (l .unfinished) (l .last) (byte (shown s) y)
+  shown-on l b (reportAt s) is = feed-last cuts need (l .unfinished) (l .last) (event (clock (shown s))) ∙ is
+
+  module _ (clocks : (last now : ℕ) → cuts last (clock now) ≡ late now last) where
+    -- what the item x drops, it drops here
+    place-here : (x : Timed) (r : List Timed) (u : List ℕ) (t b : ℕ) → t ≡ shown b → (0 < length u → b ≤ timeOf x)
+        → EachLost (Place (record { unfinished = u; last = t }) b (x ∷ r)) (feedOn cuts need u t (stamp clock x) .tokens)
+    unfolding feeds feedOn
+    place-here (byteAt s y) r [] t b is w = settle-none _ (y ∷ []) (shown s)
+    place-here (reportAt s) r [] t b is w = (tt, tt)
+    place-here (byteAt s y) r (a ∷ u) t b is w =
+        eitherBy (λ (f : Fed E). EachLost (Place (record { unfinished = a ∷ u; last = t }) b (byteAt s y ∷ r)) (f .tokens)) (late (shown s) t) _ _
+        (λ e. (([], byteAt s y, r, refl, refl, truly-late s b (w (omega arith)) (rw (← is) e)), settle-none _ (y ∷ []) (shown s)))
+        (λ e. settle-none _ (a ∷ u ++ y ∷ []) (shown s))
+    place-here (reportAt s) r (a ∷ u) t b is w =
+        eitherBy (λ (f : Fed E). EachLost (Place (record { unfinished = a ∷ u; last = t }) b (reportAt s ∷ r)) (f .tokens)) (cuts t (clock (shown s))) _ _
+        (λ e. (([], reportAt s, r, refl, refl, truly-late s b (w (omega arith)) (rw (← is) (sym (clocks t (shown s)) ∙ e))), (tt, tt)))
+        (λ e. (tt, tt))
+
+    places : (r : List Timed) (l : Line) (b p : ℕ) → l .last ≡ shown b → WatchedFrom clock cuts need l b p r
+        → EachLost (Place l b r) (feeds cuts need l (stamped clock r) .tokens)
+    unfolding feeds feed
+    places [] l b p is w = tt
+    places (x ∷ r) l b p is w =
+        let f = feed cuts need l (stamp clock x) in
+        let rest = feeds cuts need (f .line) (stamped clock r) .tokens in
+        let later = places r (f .line) (byteTime b x) (timeOf x) (shown-on l b x is) (w .1) in
+        lost-append (Place l b (x ∷ r)) (f .tokens) rest (place-here x r (l .unfinished) (l .last) b is (λ some. w .0 some .0))
+        (lost-map (Place (f .line) (byteTime b x) r) _ (place-on l b x r) rest later)
+
+    module _ (law : Needs need) (run : List Timed) (w : Watched clock cuts need run) where
+      abbrev Here : Fact E
+      Here = Place (idle clock cuts need 0) 0 run
+
+      place-waited : (ks : List (Token E)) (u : List ℕ) → Here ks u → Waited clock cuts need run ks u
+      place-waited ks u (q, x, r, e, c, h) =
+          record { before = q; next = x; behind = r; place = e; held = sym (feeds-is-units cuts need law (stamped clock q) 0) ∙ c; long = h }
+
+      -- NOTHING IS DROPPED BUT FOR A WAIT OF MORE THAN 400 MS OF TRUE TIME
+      pub true-wait : LostWaited clock cuts need run
+      unfolding feeds
+      true-wait ks ls u e =
+          let same = ap (λ (c : Cut E). c .tokens) (feeds-is-units cuts need law (stamped clock run) 0) ∙ e in
+          let each = subst (EachLost Here) same (places run (idle clock cuts need 0) 0 0 refl (watched-from clock cuts need law run [] w)) in
+          place-waited ks u (one-lost Here ks ls u each)
