@@ -88,4 +88,4 @@ module _ (run : List Timed) (w : Watched clock (protocol .cuts) (protocol .need)
 
   -- and behind each beginning that it finds dropped, a byte or report came after such a wait
   pub after-true-wait : LostWaited clock (protocol .cuts) (protocol .need) run
-  after-true-wait = true-wait clock (protocol .cuts) (protocol .need) (λ last now. refl) need-law run w
+  after-true-wait = true-wait clock (protocol .cuts) (protocol .need) need-law (λ last now. refl) run w

@@ -71,8 +71,10 @@ module _ {E : Type 0} (clock : ℕ → E) (cuts : ℕ → E → Bool) (need : Li
       let front = feed cuts need l (stamp clock y) .tokens in
       (y ∷ q, x, s, ap (λ (z : List Timed). y ∷ z) e, ap (λ (d : Cut E). record { tokens = front ++ d .tokens; unfinished = d .unfinished }) c, h)
 
-  settle-none : (P : Fact E) (u : List ℕ) (t : ℕ) → EachLost P (settle cuts need u t .tokens)
-  settle-none P u t = settle-either cuts need (λ (f : Fed E). EachLost P (f .tokens)) u t (λ _. (tt, tt)) (λ _. tt)
+  -- the first item may be the one
+  place-first : (l : Line) (b : ℕ) (x : Timed) (r : List Timed) → TooLong (timeOf x) b → Place l b (x ∷ r) [] (l .unfinished)
+  unfolding feeds
+  place-first l b x r h = ([], x, r, refl, refl, h)
 
   -- the last stamp is the last byte's time, as shown
   shown-on : (l : Line) (b : ℕ) (x : Timed) → l .last ≡ shown b → feed cuts need l (stamp clock x) .line .last ≡ shown (byteTime b x)
@@ -80,20 +82,28 @@ module _ {E : Type 0} (clock : ℕ → E) (cuts : ℕ → E → Bool) (need : Li
   shown-on l b (byteAt s y) is = feed-last cuts need (l .unfinished) (l .last) (byte (shown s) y)
   shown-on l b (reportAt s) is = feed-last cuts need (l .unfinished) (l .last) (event (clock (shown s))) ∙ is
 
-  module _ (clocks : (last now : ℕ) → cuts last (clock now) ≡ late now last) where
-    -- what the item x drops, it drops here
-    place-here : (x : Timed) (r : List Timed) (u : List ℕ) (t b : ℕ) → t ≡ shown b → (0 < length u → b ≤ timeOf x)
-        → EachLost (Place (record { unfinished = u; last = t }) b (x ∷ r)) (feedOn cuts need u t (stamp clock x) .tokens)
-    unfolding feeds feedOn
-    place-here (byteAt s y) r [] t b is w = settle-none _ (y ∷ []) (shown s)
-    place-here (reportAt s) r [] t b is w = (tt, tt)
-    place-here (byteAt s y) r (a ∷ u) t b is w =
-        eitherBy (λ (f : Fed E). EachLost (Place (record { unfinished = a ∷ u; last = t }) b (byteAt s y ∷ r)) (f .tokens)) (late (shown s) t) _ _
-        (λ e. (([], byteAt s y, r, refl, refl, truly-late s b (w (omega arith)) (rw (← is) e)), settle-none _ (y ∷ []) (shown s)))
+  module _ (law : Needs need) (clocks : (last now : ℕ) → cuts last (clock now) ≡ late now last) where
+    -- from the line l, the last byte at b, a step of the run comes to f, and what it drops is dropped at such a place
+    abbrev DropsHere : Line → ℕ → List Timed → Fed E → Type 0
+    DropsHere l b run f = EachLost (Place l b run) (f .tokens)
+
+    settle-none : (P : Fact E) (u : List ℕ) (t : ℕ) → EachLost P (settle cuts need u t .tokens)
+    settle-none P u t = settle-either cuts need (λ (f : Fed E). EachLost P (f .tokens)) u t (λ _. (tt, tt)) (λ _. tt)
+
+    place-step : (x : Timed) (r : List Timed) (u : List ℕ) (t b : ℕ) → t ≡ shown b → (0 < length u → b ≤ timeOf x)
+        → DropsHere (record { unfinished = u; last = t }) b (x ∷ r) (feedOn cuts need u t (stamp clock x))
+    unfolding feedOn
+    place-step (byteAt s y) r [] t b is w = settle-none _ (y ∷ []) (shown s)
+    place-step (reportAt s) r [] t b is w = (tt, tt)
+    place-step (byteAt s y) r (a ∷ u) t b is w =
+        let l : Line = record { unfinished = a ∷ u; last = t } in
+        eitherBy (DropsHere l b (byteAt s y ∷ r)) (late (shown s) t) _ _
+        (λ e. (place-first l b (byteAt s y) r (truly-late s b (w (omega arith)) (rw (← is) e)), settle-none _ (y ∷ []) (shown s)))
         (λ e. settle-none _ (a ∷ u ++ y ∷ []) (shown s))
-    place-here (reportAt s) r (a ∷ u) t b is w =
-        eitherBy (λ (f : Fed E). EachLost (Place (record { unfinished = a ∷ u; last = t }) b (reportAt s ∷ r)) (f .tokens)) (cuts t (clock (shown s))) _ _
-        (λ e. (([], reportAt s, r, refl, refl, truly-late s b (w (omega arith)) (rw (← is) (sym (clocks t (shown s)) ∙ e))), (tt, tt)))
+    place-step (reportAt s) r (a ∷ u) t b is w =
+        let l : Line = record { unfinished = a ∷ u; last = t } in
+        eitherBy (DropsHere l b (reportAt s ∷ r)) (cuts t (clock (shown s))) _ _
+        (λ e. (place-first l b (reportAt s) r (truly-late s b (w (omega arith)) (rw (← is) (sym (clocks t (shown s)) ∙ e))), (tt, tt)))
         (λ e. (tt, tt))
 
     places : (r : List Timed) (l : Line) (b p : ℕ) → l .last ≡ shown b → WatchedFrom clock cuts need l b p r
@@ -104,10 +114,10 @@ module _ {E : Type 0} (clock : ℕ → E) (cuts : ℕ → E → Bool) (need : Li
         let f = feed cuts need l (stamp clock x) in
         let rest = feeds cuts need (f .line) (stamped clock r) .tokens in
         let later = places r (f .line) (byteTime b x) (timeOf x) (shown-on l b x is) (w .1) in
-        lost-append (Place l b (x ∷ r)) (f .tokens) rest (place-here x r (l .unfinished) (l .last) b is (λ some. w .0 some .0))
+        lost-append (Place l b (x ∷ r)) (f .tokens) rest (place-step x r (l .unfinished) (l .last) b is (λ some. w .0 some .0))
         (lost-map (Place (f .line) (byteTime b x) r) _ (place-on l b x r) rest later)
 
-    module _ (law : Needs need) (run : List Timed) (w : Watched clock cuts need run) where
+    module _ (run : List Timed) (w : Watched clock cuts need run) where
       abbrev Here : Fact E
       Here = Place (idle clock cuts need 0) 0 run
 

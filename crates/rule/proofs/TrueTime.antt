@@ -12,7 +12,7 @@ use Rattle.rule.specs.Framing.{Needs, Token, whole, lost, seen, Cut}
 use Rattle.rule.specs.Rule.{Line}
 use Rattle.rule.specs.Step.{Fed, join, settle, feedOn, feed, feeds}
 use Rattle.rule.specs.Facts.{spent}
-use Rattle.rule.specs.TrueTime.{Timed, byteAt, reportAt, timeOf, times, byteTime, lastByte, lastTime, CloseTo, Close, longestSilence, shown, stamp, stamped, Watched, WholeClose}
+use Rattle.rule.specs.TrueTime.{Timed, byteAt, reportAt, timeOf, times, byteTime, lastByte, lastTime, Close, longestSilence, shown, stamp, stamped, Watched, WholeClose}
 use Rattle.rule.proofs.Choice.{eitherBy}
 use Rattle.rule.proofs.Framing.{settle-either, feeds-is-units}
 
@@ -33,7 +33,7 @@ abbrev lastOf : ℕ → List ℕ → ℕ
 lastOf t [] = t
 lastOf t (s ∷ ts) = lastOf s ts
 
-close-on : (t : ℕ) (ts : List ℕ) (s : ℕ) → CloseTo t ts → s ≤ lastOf t ts + 400 → CloseTo t (ts ++ s ∷ [])
+close-on : (t : ℕ) (ts : List ℕ) (s : ℕ) → Close (t ∷ ts) → s ≤ lastOf t ts + 400 → Close (t ∷ ts ++ s ∷ [])
 close-on t [] s h k = (k, tt)
 close-on t (x ∷ ts) s h k = (h .0, close-on x ts s (h .1) k)
 
@@ -41,6 +41,7 @@ last-on : (t : ℕ) (ts : List ℕ) (s : ℕ) → lastOf t (ts ++ s ∷ []) ≡ 
 last-on t [] s = refl
 last-on t (x ∷ ts) s = last-on x ts s
 
+-- what lies behind w, behind v, lies behind v ++ w
 on-past : (u v w ts : List ℕ) → Close (take (length u) (drop (length w) (drop (length v) ts))) → Close (take (length u) (drop (length (v ++ w)) ts))
 on-past u v w ts h = rw (length-append v w, ← drop-drop (length w) (length v) ts) h
 
@@ -110,7 +111,7 @@ module _ {E : Type 0} (clock : ℕ → E) (cuts : ℕ → E → Bool) (need : Li
 
       Within : List Timed → Type 0
       Within r =
-          (a t b p : ℕ) (u ts : List ℕ) → length u ≡ length ts → CloseTo t ts → lastOf t ts ≡ b → p ≤ b + 400
+          (a t b p : ℕ) (u ts : List ℕ) → length u ≡ length ts → Close (t ∷ ts) → lastOf t ts ≡ b → p ≤ b + 400
           → let l : Line = record { unfinished = a ∷ u; last = shown b } in
           WatchedFrom l b p r → SpentClose (feeds cuts need l (stamped clock r) .tokens) (t ∷ ts ++ times r)
 
@@ -124,7 +125,7 @@ module _ {E : Type 0} (clock : ℕ → E) (cuts : ℕ → E → Bool) (need : Li
       abbrev nothing : ℕ → Fed E
       nothing t = record { tokens = []; line = idle t }
 
-      settled : (r : List Timed) → Idle r → Within r → (a t b : ℕ) (u ts : List ℕ) → length u ≡ length ts → CloseTo t ts → lastOf t ts ≡ b
+      settled : (r : List Timed) → Idle r → Within r → (a t b : ℕ) (u ts : List ℕ) → length u ≡ length ts → Close (t ∷ ts) → lastOf t ts ≡ b
           → Meets b b (t ∷ ts ++ times r) r (settle cuts need (a ∷ u) (shown b))
       unfolding Idle Within
       settled r out inside a t b u ts long close last =

@@ -1,5 +1,5 @@
--- A run in true time, which never comes round, and as the board is shown it. No part of the rule: the words of the law that says why the time is
--- reported (`true-time` of proofs/TrueTime). In quotation marks: sheet 02, P3.
+-- A run in true time, which never comes round, and as the board is shown it. No part of the rule: the words of the two laws that say why the time is
+-- reported (`true-time` of proofs/TrueTime, `true-wait` of proofs/Dropped). In quotation marks: sheet 02, P3, or 01 where it is named.
 use Prim.Native.Nat.{ℕ, _+_, _%_, _<_, _≤_}
 use mathlib.Core.Path.{_≡_}
 use mathlib.Core.Bool.{Bool}
@@ -37,14 +37,11 @@ abbrev pub lastTime : ℕ → List Timed → ℕ
 lastTime t [] = t
 lastTime t (x ∷ r) = lastTime (timeOf x) r
 
--- times behind t, and times: none more than 400 ms after the one before it
-abbrev pub CloseTo : ℕ → List ℕ → Type 0
-CloseTo t [] = Unit {0}
-CloseTo t (s ∷ ts) = (s ≤ t + 400) × CloseTo s ts
-
+-- times: none more than 400 ms after the one before it
 abbrev pub Close : List ℕ → Type 0
 Close [] = Unit {0}
-Close (t ∷ ts) = CloseTo t ts
+Close (t ∷ []) = Unit {0}
+Close (t ∷ s ∷ ts) = (s ≤ t + 400) × Close (s ∷ ts)
 
 -- from t to s is a wait of more than 400 ms
 abbrev pub TooLong : ℕ → ℕ → Type 0
@@ -80,12 +77,13 @@ module _ {E : Type 0} where
           (q r : List Timed) (x : Timed) → run ≡ q ++ x ∷ r → 0 < length (unitsOf cuts need (stamped q) .unfinished)
           → (lastByte 0 q ≤ timeOf x) × (timeOf x ≤ lastTime 0 q + longestSilence)
 
-      -- each whole unit u of the run: none of its bytes came more than 400 ms after the one before it
+      -- NONE IS COMPLETED AFTER A TRUE WAIT: of a whole unit u, behind the tokens ks, no byte came more than 400 ms after the one before it.
+      -- 01: "A wait inside a unit of more than 400 ms drops the unit's bytes so far"
       abbrev pub WholeClose : Type 0
       WholeClose = (ks ls : List (Token E)) (u : List ℕ) → unitsOf cuts need (stamped run) .tokens ≡ ks ++ whole u ∷ ls → Close (timesOf run ks u)
 
-      -- u, behind the tokens ks, was dropped for a wait that was true: at a place of the run, ks was all that had been complete and u was unfinished, and
-      -- the next byte or report came more than 400 ms after the last byte
+      -- at some place of the run the tokens ks were complete and u was unfinished, and the next byte or report came more than 400 ms after the last byte.
+      -- "If something is unfinished and the wait since the last byte exceeds 400"
       pub record Waited (ks : List (Token E)) (u : List ℕ) : Type 0 where
         pub before : List Timed
         pub next : Timed
@@ -94,6 +92,6 @@ module _ {E : Type 0} where
         pub held : unitsOf cuts need (stamped before) ≡ record { tokens = ks; unfinished = u }
         pub long : TooLong (timeOf next) (lastByte 0 before)
 
-      -- each beginning u that was dropped had waited
+      -- AND NONE IS DROPPED BUT AFTER A TRUE WAIT: each beginning u that was dropped, behind the tokens ks
       abbrev pub LostWaited : Type 0
       LostWaited = (ks ls : List (Token E)) (u : List ℕ) → unitsOf cuts need (stamped run) .tokens ≡ ks ++ lost u ∷ ls → Waited ks u
