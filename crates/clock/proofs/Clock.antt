@@ -10,11 +10,11 @@ use Rattle.rule.specs.Run.{Item, byte, event, late}
 use Rattle.rule.specs.Rule.{Said, quiet, then, State, deal, wholeRun}
 use Rattle.rule.specs.Step.{feedOn, feed, step, steps}
 use Rattle.rule.specs.Loop.{stateAt}
-use Rattle.rule.specs.TrueTime.{Timed, Watched, WholeClose, LostWaited}
+use Rattle.rule.specs.TrueTime.{Timed, Watched, WholeClose, TrueDrops}
 use Rattle.rule.proofs.Choice.{either}
 use Rattle.rule.proofs.Steps.{steps-append, steps-is-whole}
 use Rattle.rule.proofs.TrueTime.{true-time}
-use Rattle.rule.proofs.Dropped.{true-wait}
+use Rattle.rule.proofs.Dropped.{true-drops}
 use Rattle.names.specs.declared.Order.{Order}
 use Rattle.names.proofs.Need.{need-some, need-law}
 use Rattle.unit.specs.Unit.{Event, clock, act}
@@ -86,6 +86,6 @@ module _ (run : List Timed) (w : Watched clock (protocol .cuts) (protocol .need)
   pub in-true-time : WholeClose clock (protocol .cuts) (protocol .need) run
   in-true-time = true-time clock (protocol .cuts) (protocol .need) need-law (λ last now. refl) run w
 
-  -- and behind each beginning that it finds dropped, a byte or report came after such a wait
-  pub after-true-wait : LostWaited clock (protocol .cuts) (protocol .need) run
-  after-true-wait = true-wait clock (protocol .cuts) (protocol .need) need-law (λ last now. refl) run w
+  -- and a beginning is dropped exactly where the next byte or report came after such a wait
+  pub dropped-in-true-time : TrueDrops clock (protocol .cuts) (protocol .need) run
+  dropped-in-true-time = true-drops clock (protocol .cuts) (protocol .need) need-law (λ last now. refl) run w

@@ -19,12 +19,12 @@ use Rattle.rule.proofs.Framing.{settle-either, feeds-is-units}
 -- ---- times
 
 -- less than a turn of the counter apart, the wait is the true one
-wait-true : (later earlier : ℕ) → earlier ≤ later → later < earlier + 4294967296 → wait (shown later) (shown earlier) ≡ later - earlier
+pub wait-true : (later earlier : ℕ) → earlier ≤ later → later < earlier + 4294967296 → wait (shown later) (shown earlier) ≡ later - earlier
 unfolding wait
 wait-true later earlier h k = omega arith
 
 -- what is not late is close
-not-late : (later earlier : ℕ) → earlier ≤ later → later < earlier + 4294967296 → late (shown later) (shown earlier) ≡ false → later ≤ earlier + 400
+pub not-late : (later earlier : ℕ) → earlier ≤ later → later < earlier + 4294967296 → late (shown later) (shown earlier) ≡ false → later ≤ earlier + 400
 unfolding late
 not-late later earlier h k e = omega (arith, ltb-false 400 (wait (shown later) (shown earlier)) e, wait-true later earlier h k)
 

@@ -1,5 +1,5 @@
 -- A run in true time, which never comes round, and as the board is shown it. No part of the rule: the words of the two laws that say why the time is
--- reported (`true-time` of proofs/TrueTime, `true-wait` of proofs/Dropped). In quotation marks: sheet 02, P3, or 01 where it is named.
+-- reported (`true-time` of proofs/TrueTime, `true-drops` of proofs/Dropped). In quotation marks: sheet 02, P3, or 01 where it is named.
 use Prim.Native.Nat.{ℕ, _+_, _%_, _<_, _≤_}
 use mathlib.Core.Path.{_≡_}
 use mathlib.Core.Bool.{Bool}
@@ -82,16 +82,21 @@ module _ {E : Type 0} where
       abbrev pub WholeClose : Type 0
       WholeClose = (ks ls : List (Token E)) (u : List ℕ) → unitsOf cuts need (stamped run) .tokens ≡ ks ++ whole u ∷ ls → Close (timesOf run ks u)
 
-      -- at some place of the run the tokens ks were complete and u was unfinished, and the next byte or report came more than 400 ms after the last byte.
-      -- "If something is unfinished and the wait since the last byte exceeds 400"
+      -- at a place of the run the tokens ks are complete and u is unfinished, and the next byte or report comes more than 400 ms after the last byte:
+      -- "If something is unfinished and the wait since the last byte exceeds 400,
       pub record Waited (ks : List (Token E)) (u : List ℕ) : Type 0 where
         pub before : List Timed
         pub next : Timed
         pub behind : List Timed
         pub place : run ≡ before ++ next ∷ behind
         pub held : unitsOf cuts need (stamped before) ≡ record { tokens = ks; unfinished = u }
+        pub some : 0 < length u
         pub long : TooLong (timeOf next) (lastByte 0 before)
 
-      -- AND NONE IS DROPPED BUT AFTER A TRUE WAIT: each beginning u that was dropped, behind the tokens ks
-      abbrev pub LostWaited : Type 0
-      LostWaited = (ks ls : List (Token E)) (u : List ℕ) → unitsOf cuts need (stamped run) .tokens ≡ ks ++ lost u ∷ ls → Waited ks u
+      -- it is dropped"
+      abbrev pub Dropped : List (Token E) → List ℕ → Type 0
+      Dropped ks u = (ls : List (Token E)) × (unitsOf cuts need (stamped run) .tokens ≡ ks ++ lost u ∷ ls)
+
+      -- AND IT IS DROPPED EXACTLY THEN
+      abbrev pub TrueDrops : Type 0
+      TrueDrops = (ks : List (Token E)) (u : List ℕ) → (Dropped ks u → Waited ks u) × (Waited ks u → Dropped ks u)
