@@ -2,3 +2,4 @@ pub mod Calls
 pub mod Reports
 pub mod Runs
 pub mod Times
+pub mod Work

@@ -15,11 +15,7 @@ use Rattle.clock.specs.Report.{clockedBoard, reported}
 use Rattle.clock.specs.declared.Report.{Report}
 use Rattle.clock.proofs.Clock.{clock-sound}
 use Rattle.clock.proofs.Reports.{report-refused as kept-board, report-heard, clocked-state}
-use Rattle.clock.proofs.report_time.Reads as report-time
-
--- THE CONTRACT OF REPORT_TIME allows the answer r to the time `now`, reported to the board b
-pub data Reports (b : Board) (now : ℕ) (r : Report) : Type 0 where
-  allowed : (κs : _) (a : _) (s : _) → report-time.Post κs a r s → a .0 ≡ b → a .1 .0 ≡ now → Reports b now r
+use Rattle.demands.specs.Reports.{Reports, allowed}
 
 pub report-promise : {b : Board} {now : ℕ} {r : Report} → Reports b now r → r ≡ reported b now
 report-promise (allowed κs a s got e f) = rw (← e, ← f) got

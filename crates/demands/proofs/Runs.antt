@@ -1,7 +1,7 @@
 -- The demands of a run, in any cutting, over what the contracts of the public functions themselves say. In quotation marks: sheet 01, and the demands
 -- by number. Assumes nothing.
 use Prim.Native.Nat.{ℕ, _<_}
-use mathlib.Core.Path.{_≡_, refl, ap, sym, _∙_}
+use mathlib.Core.Path.{_≡_, refl, ap, sym, subst, _∙_}
 use mathlib.Core.Bool.{Bool, true, false, cond}
 use mathlib.Core.List.{List, [], _∷_, _++_, append-nil}
 use native.Mathlib.Omega.{arith}
@@ -16,8 +16,10 @@ use Rattle.rule.specs.Framing.{Token, whole, unitsOf}
 use Rattle.rule.specs.Rule.{Said, quiet, then, State, deal, wholeRun}
 use Rattle.rule.specs.Step.{steps}
 use Rattle.rule.specs.Calls.{Called, call}
+use Rattle.rule.specs.Loop.{stateAt}
 use Rattle.rule.specs.Facts.{spent}
-use Rattle.rule.proofs.Said.{then-quiet}
+use Rattle.rule.proofs.Choice.{either}
+use Rattle.rule.proofs.Said.{deal-append}
 use Rattle.rule.proofs.Steps.{steps-append, steps-is-whole}
 use Rattle.rule.proofs.Calls.{call-steps}
 use Rattle.rule.proofs.Bytes.{units-bytes}
@@ -26,132 +28,175 @@ use Rattle.names.specs.Names.{given, kindAt}
 use Rattle.names.specs.declared.Order.{Order}
 use Rattle.names.specs.declared.Kind.the-variants.{Get}
 use Rattle.names.proofs.Need.{need-law}
-use Rattle.unit.specs.Unit.{Event, clock, freshMemory, act, orderOf}
+use Rattle.unit.specs.Unit.{Event, clock, freshMemory, act}
 use Rattle.unit.specs.Protocol.{protocol, freshState}
+use Rattle.unit.specs.Kept.{Refused, Echoed, Without, getReply, FlagsStay}
 use Rattle.unit.specs.declared.Memory.{Memory}
-use Rattle.unit.proofs.Kept.{Accepts, Without}
-use Rattle.unit.proofs.Runs.{getReply, run-get-after-set}
+use Rattle.unit.proofs.Kept.{refused-keeps}
+use Rattle.unit.proofs.Flags.{flags-stay}
+use Rattle.unit.proofs.Runs.{run-get-after-set}
 use Rattle.state.specs.State.{stateOf, boardOf}
 use Rattle.state.specs.Sound.{soundBoard, refusalOf}
 use Rattle.state.specs.declared.Board.{Board}
 use Rattle.state.specs.declared.Call.{Call}
 use Rattle.state.proofs.Boards.{state-board, refusal-none}
 use Rattle.state.proofs.fresh.Reads as fresh
-use Rattle.clock.specs.Clock.{clocked}
-use Rattle.clock.specs.Report.{clockedBoard, reported}
+use Rattle.clock.specs.Clock.{overdue, dropped}
+use Rattle.clock.specs.Report.{reported}
 use Rattle.clock.specs.declared.Report.{Report}
 use Rattle.clock.proofs.Clock.{clock-step}
-use Rattle.clock.proofs.Reports.{clocked-board}
+use Rattle.clock.proofs.Reports.{clocked-state}
 use Rattle.receiver.specs.Receive.{answer}
-use Rattle.receiver.proofs.Calls.{call-order, call-board, accept-some}
-use Rattle.demands.proofs.Calls.{Answers, promise, rules, is-taken, is-order, written-is, keeps-sound, receive-some}
-use Rattle.demands.proofs.Reports.{Reports, report-numbered, report-refused, report-accepted, report-keeps-sound, report-some}
-
--- ---- what is offered
-
--- what an answer says: the bytes written in the buffer, its order, and the next board
-abbrev pub saidBy : Call → List ℕ → Said Order Board
-saidBy r after = record { reply = take (r .written) after; orders = given (r .order); next = r .board }
-
--- what the rule says, with the code's board
-abbrev pub onBoard : Said Order (State Memory) → Said Order Board
-onBoard w = record { reply = w .reply; orders = w .orders; next = boardOf (w .next) }
-
--- the event of a report with this number: a refused one is no event
-abbrev pub heard : ℕ → Event → List (Item Event)
-heard number e = cond (eqb number 0) (event e ∷ []) []
-
--- ONE STEP OF A MAIN LOOP at the board b: what it adds to the run, what is said, and the next board. Each answer is whatever its contract allows
-pub data Step : Board → List (Item Event) → Said Order Board → Type 0 where
-  -- a call takes bytes that share a stamp: all of its piece, some, or none where it is empty or refused
-  called : {b : Board} {t : ℕ} {p before after : List ℕ} {r : Call} → Answers b t p before r after → Step b (at t (take (r .taken) p)) (saidBy r after)
-  -- 02, P3: "The main loop may report the time at any moment, as an event of its own."
-  told : {b : Board} {now : ℕ} {r : Report} → Reports b now r → Step b (heard (r .number) (clock now)) (quiet (r .board))
-
--- A RUN OFFERED in some cutting, from the board b to its end, and what was said. What a call leaves of its piece is offered later, as the run has
--- it: at once, or behind reports
-pub data Offered : Board → List (Item Event) → Said Order Board → Type 0 where
-  done : (b : Board) → Offered b [] (quiet b)
-  next : (b : Board) (items rest run : List (Item Event)) (y x : Said Order Board) → Step b items y → Offered (y .next) rest x → run ≡ items ++ rest
-      → Offered b run (then y (λ _. x))
+use Rattle.receiver.proofs.Calls.{call-order, accept-some}
+use Rattle.demands.specs.Calls.{Answers}
+use Rattle.demands.specs.Reports.{Reports}
+use Rattle.demands.specs.Runs.{saidBy, inState, onBoard, heard, Step, called, told, OfferedBy, done, next, Offered}
+use Rattle.demands.proofs.Calls.{promise, rules, is-taken, is-order, is-state, written-is, keeps-sound, receive-some}
+use Rattle.demands.proofs.Reports.{report-promise, report-numbered, report-refused, report-accepted, report-keeps-sound, report-some}
 
 -- ---- each step is the rule's
 
--- a call at a board that stands for s, spare bytes too, says and leaves what the byte steps over the bytes taken do
-module _ {b : Board} {t : ℕ} {p before after : List ℕ} {r : Call} (got : Answers b t p before r after) (s : State Memory) (is : b ≡ boardOf s) where
+-- a call says and leaves what the byte steps over the bytes taken do, whatever the board's spare bytes
+module _ {b : Board} {t : ℕ} {p before after : List ℕ} {r : Call} (got : Answers b t p before r after) where
   abbrev c : Called Order Memory
-  c = call protocol (refusalOf b) s t (length before) p
+  c = rules got
 
-  at-state : rules got ≡ c
-  at-state = ap (λ (y : State Memory). call protocol (refusalOf b) y t (length before) p) (ap stateOf is ∙ state-board s)
-
-  got-said : saidBy r after ≡ onBoard (c .said)
+  got-said : inState (saidBy r after) ≡ c .said
   got-said =
-      let w : take (r .written) after ≡ c .said .reply = written-is got ∙ ap (λ (y : Called Order Memory). y .said .reply) at-state in
-      let o : given (r .order) ≡ c .said .orders =
-      ap given (is-order got) ∙ ap (λ (y : Called Order Memory). given (orderOf (y .said .orders))) at-state ∙ call-order (refusalOf b) s t (length before) p in
-      let n : r .board ≡ boardOf (c .said .next) =
-      ap (λ (y : Call). y .board) (promise got .result) ∙ (λ i. answer (is i) (at-state i) .board) ∙ call-board (refusalOf b) s t (length before) p in
-      λ i. record { reply = w i; orders = o i; next = n i }
+      let o : given (r .order) ≡ c .said .orders = ap given (is-order got) ∙ call-order (refusalOf b) (stateOf b) t (length before) p in
+      λ i. record { reply = written-is got i; orders = o i; next = is-state got i }
 
-  got-steps : saidBy r after ≡ onBoard (steps protocol s (at t (take (r .taken) p)))
+  got-steps : inState (saidBy r after) ≡ steps protocol (stateOf b) (at t (take (r .taken) p))
   got-steps =
-      let taken : c .taken ≡ r .taken = sym (is-taken got ∙ ap (λ (y : Called Order Memory). y .taken) at-state) in
-      got-said ∙ ap onBoard (call-steps protocol (refusalOf b) p s t (length before) .same ∙ ap (λ (k : ℕ). steps protocol s (at t (take k p))) taken)
+      got-said ∙ call-steps protocol (refusalOf b) p (stateOf b) t (length before) .same
+      ∙ ap (λ (k : ℕ). steps protocol (stateOf b) (at t (take k p))) (sym (is-taken got))
 
 -- so does a report: heard it is the rule's event, refused it is none
-module _ {b : Board} {now : ℕ} {r : Report} (got : Reports b now r) (s : State Memory) (is : b ≡ boardOf s) where
-  told-steps : quiet (r .board) ≡ onBoard (steps protocol s (heard (r .number) (clock now)))
+module _ {b : Board} {now : ℕ} {r : Report} (got : Reports b now r) where
+  told-steps : inState (quiet (r .board)) ≡ steps protocol (stateOf b) (heard (r .number) (clock now))
   unfolding steps
   told-steps = by (eqb (r .number) 0) refl
     where
-      by : (y : Bool) → eqb (r .number) 0 ≡ y → quiet (r .board) ≡ onBoard (steps protocol s (cond y (event (clock now) ∷ []) []))
+      by : (y : Bool) → eqb (r .number) 0 ≡ y → inState (quiet (r .board)) ≡ steps protocol (stateOf b) (cond y (event (clock now) ∷ []) [])
       by true e =
-          let n = report-accepted got (eqb-true (r .number) 0 e) ∙ ap (λ (z : Board). clockedBoard z now) is ∙ clocked-board s now in
-          ap quiet n ∙ ap onBoard (sym (ap (λ (a : Said Order (State Memory)). then a (λ k. quiet k)) (clock-step s now)))
-      by false e = ap quiet (report-refused got (eqb-false (r .number) 0 e) ∙ is)
+          let n = ap stateOf (report-accepted got (eqb-true (r .number) 0 e)) ∙ clocked-state b now in
+          ap quiet n ∙ sym (ap (λ (a : Said Order (State Memory)). then a (λ k. quiet k)) (clock-step (stateOf b) now))
+      by false e = ap (λ (z : Board). quiet (stateOf z)) (report-refused got (eqb-false (r .number) 0 e))
 
-pub step-steps : {b : Board} {items : List (Item Event)} {y : Said Order Board} → Step b items y → (s : State Memory) → b ≡ boardOf s
-    → y ≡ onBoard (steps protocol s items)
-step-steps (called got) s is = got-steps got s is
-step-steps (told got) s is = told-steps got s is
+step-steps : {b : Board} {items : List (Item Event)} {y : Said Order Board} → Step b items y → inState y ≡ steps protocol (stateOf b) items
+step-steps (called got) = got-steps got
+step-steps (told got) = told-steps got
 
--- every offered run says and leaves what the byte steps over it do
+-- EVERY OFFERED RUN says and leaves what the byte steps over it do, from whatever board
+pub offered-state : {b : Board} {run : List (Item Event)} {x : Said Order Board} → Offered b run x → inState x ≡ steps protocol (stateOf b) run
+unfolding steps
+offered-state (done b) = refl
+offered-state (next b items rest run y x one more e) =
+    let first = step-steps one in
+    let behind = offered-state more ∙ ap (λ (z : Said Order (State Memory)). steps protocol (z .next) rest) first in
+    (λ i. then (first i) (λ _. behind i)) ∙ sym (steps-append protocol items rest (stateOf b)) ∙ ap (steps protocol (stateOf b)) (sym e)
+
+-- ---- spare bytes that are zero stay so
+
+abbrev Tidy : Board → Type 0
+Tidy b = b ≡ boardOf (stateOf b)
+
+tidy-board : (s : State Memory) → Tidy (boardOf s)
+tidy-board s = ap boardOf (sym (state-board s))
+
+step-tidy : {b : Board} {items : List (Item Event)} {y : Said Order Board} → Step b items y → Tidy b → Tidy (y .next)
+step-tidy {b} (called got) tidy =
+    subst Tidy (ap (λ (z : Call). z .board) (sym (promise got .result))) (either Tidy (eqb (rules got .taken) 0) b _ tidy (tidy-board (rules got .said .next)))
+step-tidy {b} (told {now = now} got) tidy =
+    subst Tidy (ap (λ (z : Report). z .board) (sym (report-promise got)))
+    (either Tidy (eqb (refusalOf b) 0) _ b (either Tidy (overdue (stateOf b) now) _ b (tidy-board (dropped (stateOf b))) tidy) tidy)
+
+offered-tidy : {b : Board} {run : List (Item Event)} {x : Said Order Board} → Offered b run x → Tidy b → Tidy (x .next)
+offered-tidy (done b) tidy = tidy
+offered-tidy (next b items rest run y x one more e) tidy = offered-tidy more (step-tidy one tidy)
+
+-- so from such a board the board at the end is known to its last byte
 pub offered-steps : {b : Board} {run : List (Item Event)} {x : Said Order Board} → Offered b run x → (s : State Memory) → b ≡ boardOf s
     → x ≡ onBoard (steps protocol s run)
-unfolding steps
-offered-steps (done b) s is = λ i. quiet (is i)
-offered-steps (next b items rest run y x one more e) s is =
-    let first = step-steps one s is in
-    let ih = offered-steps more (steps protocol s items .next) (ap (λ (z : Said Order Board). z .next) first) in
-    (λ i. then (first i) (λ _. ih i)) ∙ ap onBoard (sym (steps-append protocol items rest s)) ∙ ap (λ (q : List (Item Event)). onBoard (steps protocol s q)) (sym e)
+offered-steps {run = run} {x = x} h s is =
+    let at-s = ap stateOf is ∙ state-board s in
+    let tidy = offered-tidy h (subst Tidy (sym is) (tidy-board s)) in
+    (λ i. record { reply = x .reply; orders = x .orders; next = tidy i }) ∙ ap onBoard (offered-state h ∙ ap (λ (z : State Memory). steps protocol z run) at-s)
 
-module _ (κs : _) (a : _) (b : Board) (s : _) (is : fresh.Post κs a b s) (run : List (Item Event)) (x : Said Order Board) (h : Offered b run x) where
+-- ---- THE DEMANDS, from any board with nothing unfinished, at its memory and its last stamp
+
+module _ {b : Board} {run : List (Item Event)} {x : Said Order Board} (h : Offered b run x) (idle : b .count ≡ 0) where
   -- Demand 3: "Once all is taken, the replies joined, the orders in sequence, the settings, flags, last refused field, unfinished bytes and last
   -- stamp are those that sheet 01's rule gives for the whole run at once."
   -- 02, P3: "Demand 3's run and the whole-run rule then hold bytes and clock reports in their order."
-  pub any-cutting : x ≡ onBoard (wholeRun protocol freshMemory 0 run)
-  any-cutting = offered-steps h freshState is ∙ ap onBoard (steps-is-whole protocol need-law freshMemory 0 run)
+  pub any-cutting : inState x ≡ wholeRun protocol (b .memory) (b .stamp) run
+  any-cutting =
+      offered-state h ∙ ap (λ (n : ℕ). steps protocol (stateAt (b .memory) (take n (b .held)) (b .stamp)) run) idle
+      ∙ steps-is-whole protocol need-law (b .memory) (b .stamp) run
+
+  -- the tokens of the run, and what they say
+  abbrev pub tokens : List (Token Event)
+  tokens = unitsOf (protocol .cuts) (protocol .need) run .tokens
+
+  dealt : (x .reply ≡ deal protocol (b .memory) tokens .reply) × (x .next .memory ≡ deal protocol (b .memory) tokens .next)
+  unfolding wholeRun
+  dealt = (ap (λ (y : Said Order (State Memory)). y .reply) any-cutting, ap (λ (y : Said Order (State Memory)). y .next .memory) any-cutting)
 
   -- no byte is lost or invented: the run is the bytes of the units that were dealt with or dropped, in sequence, and then "Bytes of an unfinished unit
   -- at the end of the run stay unfinished", on the board at the end
-  pub conserved : bytes run ≡ spent (unitsOf (protocol .cuts) (protocol .need) run .tokens) ++ take (x .next .count) (x .next .held)
+  pub conserved : bytes run ≡ spent tokens ++ take (x .next .count) (x .next .held)
   unfolding wholeRun
   conserved =
-      let end = ap (λ (y : Said Order Board). stateOf (y .next)) any-cutting ∙ state-board (wholeRun protocol freshMemory 0 run .next) in
       units-bytes (protocol .cuts) (protocol .need) need-law run
-      ∙ ap (λ (y : State Memory). spent (unitsOf (protocol .cuts) (protocol .need) run .tokens) ++ y .line .unfinished) (sym end)
+      ∙ ap (λ (y : Said Order (State Memory)). spent tokens ++ y .next .line .unfinished) (sym any-cutting)
+
+  -- a unit u of the run, behind the tokens `before`: the memory m that it meets, and its answer a
+  module _ (before after : List (Token Event)) (u : List ℕ) (cut : tokens ≡ before ++ whole u ∷ after) where
+    abbrev pub m : Memory
+    m = deal protocol (b .memory) before .next
+
+    abbrev pub a : Said Order Memory
+    a = act m (whole u)
+
+    -- its reply stands behind the replies of what came before it, and the run goes on from the memory that it leaves
+    pub answered : x .reply ≡ deal protocol (b .memory) before .reply ++ (a .reply ++ deal protocol (a .next) after .reply)
+    unfolding deal
+    answered = dealt .0 ∙ ap (λ (ks : List (Token Event)). deal protocol (b .memory) ks .reply) cut ∙ ap (λ (y : Said Order Memory). y .reply) (deal-append protocol before (whole u ∷ after) (b .memory))
+
+    pub goes-on : x .next .memory ≡ deal protocol (a .next) after .next
+    unfolding deal
+    goes-on = dealt .1 ∙ ap (λ (ks : List (Token Event)). deal protocol (b .memory) ks .next) cut ∙ ap (λ (y : Said Order Memory). y .next) (deal-append protocol before (whole u ∷ after) (b .memory))
+
+    -- Demand 1: "A command refused on the wire (errc, errd, errv) alters no setting."
+    pub refused-alters-none : Refused (a .reply) → a .next .settings ≡ m .settings
+    refused-alters-none r = refused-keeps m u r
+
+  -- of boards: a run that holds one unit, whose reply is a refusal, leaves the settings that it found
+  pub refused-alone : (u : List ℕ) → tokens ≡ whole u ∷ [] → Refused (x .reply) → x .next .memory .settings ≡ b .memory .settings
+  unfolding deal
+  refused-alone u cut r =
+      let reply : x .reply ≡ act (b .memory) (whole u) .reply = answered [] [] u cut ∙ append-nil _ in
+      ap (λ (y : Memory). y .settings) (goes-on [] [] u cut) ∙ refused-alters-none [] [] u cut (subst Refused reply r)
 
   -- Demand 2: "After an accepted set, the get of that block returns the same fields, reserved bytes zero, until the next accepted set of that block":
-  -- in a run of bytes, the set u, then the get g of its block with no accepted set of the block between them
+  -- in a run of bytes, the set u, which was answered with its own name, then the get g of its block with no set of the block so answered between them
   pub get-after-set : (before between after : List (Token Event)) (u g : List ℕ) (k : ℕ) → ((i : ℕ) → getD (bytes run) i 0 < 256)
-      → unitsOf (protocol .cuts) (protocol .need) run .tokens ≡ before ++ (whole u ∷ between ++ (whole g ∷ after))
-      → let m = deal protocol freshMemory before .next in Accepts m u k → Without k (act m (whole u) .next) between
+      → tokens ≡ before ++ (whole u ∷ between ++ (whole g ∷ after))
+      → let m = deal protocol (b .memory) before .next in Echoed m u k → Without k (act m (whole u) .next) between
       → kindAt g ≡ Get k
-      → let y = deal protocol freshMemory (before ++ (whole u ∷ between)) in
+      → let y = deal protocol (b .memory) (before ++ (whole u ∷ between)) in
       x .reply ≡ y .reply ++ (getReply k (canonical (rowAt k) (dataIn u)) ++ deal protocol (y .next) after .reply)
-  get-after-set before between after u g k low cut a w get =
-      ap (λ (y : Said Order Board). y .reply) any-cutting ∙ run-get-after-set freshMemory 0 run before between after u g k low cut a w get
+  get-after-set before between after u g k low cut e w get =
+      ap (λ (y : Said Order (State Memory)). y .reply) any-cutting ∙ run-get-after-set (b .memory) (b .stamp) run before between after u g k low cut e w get
+
+-- "Flags stay set until a fresh board." (01): over any offered run, and so over one call and over one report
+pub flags-kept : {b : Board} {run : List (Item Event)} {x : Said Order Board} → Offered b run x → FlagsStay (b .memory) (x .next .memory)
+flags-kept {b} {run} h = subst (λ (y : Said Order (State Memory)). FlagsStay (b .memory) (y .next .memory)) (sym (offered-state h)) (flags-stay run (stateOf b))
+
+-- Demand 3 from a fresh board: the board at the end is the rule's to its last byte
+pub from-fresh : (κs : _) (a : _) (b : Board) (s : _) → fresh.Post κs a b s → {run : List (Item Event)} {x : Said Order Board} → Offered b run x
+    → x ≡ onBoard (wholeRun protocol freshMemory 0 run)
+from-fresh κs a b s is {run} h = offered-steps h freshState is ∙ ap onBoard (steps-is-whole protocol need-law freshMemory 0 run)
 
 -- ---- every run can be offered to its end
 

@@ -28,7 +28,8 @@ use Rattle.state.specs.declared.Call.{Call}
 use Rattle.state.proofs.Boards.{refusal-none}
 use Rattle.receiver.specs.Receive.{answer}
 use Rattle.receiver.proofs.Calls.{accept-readied}
-use Rattle.demands.proofs.Calls.{Answers, promise, written-is}
+use Rattle.demands.specs.Calls.{Answers}
+use Rattle.demands.proofs.Calls.{promise, written-is}
 
 -- a board that can be asked: "a sound board with room enough and nothing unfinished"
 pub record Ready (b : Board) : Type 0 where

@@ -20,7 +20,8 @@ use Rattle.unit.specs.declared.Memory.{Memory}
 use Rattle.state.specs.State.{boardOf}
 use Rattle.state.specs.declared.Board.{Board}
 use Rattle.clock.proofs.Clock.{NoneOverdue, onlyBytes, none-overdue}
-use Rattle.demands.proofs.Runs.{Offered, offered-steps}
+use Rattle.demands.specs.Runs.{Offered}
+use Rattle.demands.proofs.Runs.{offered-steps}
 use Rattle.request.specs.Request.{frameOf}
 use Rattle.request.specs.declared.Request.{Request}
 use Rattle.answer.specs.declared.Reading.{Reading}

@@ -30,8 +30,10 @@ use Rattle.unit.specs.Unit.{outOfRange, act, does}
 use Rattle.unit.specs.declared.Memory.{Memory}
 use Rattle.unit.proofs.Sets.{puts-refused}
 use Rattle.unit.proofs.Replies.{act-kind}
-use Rattle.unit.proofs.Kept.{Accepts, accepted}
-use Rattle.unit.proofs.Runs.{getReply, got}
+use Rattle.unit.specs.Kept.{Accepts}
+use Rattle.unit.proofs.Kept.{accepted}
+use Rattle.unit.specs.Kept.{getReply}
+use Rattle.unit.proofs.Runs.{got}
 use Rattle.mov.specs.Mov.{movOf}
 use Rattle.eng.specs.Eng.{engOf}
 use Rattle.pwr.specs.Pwr.{pwrOf}

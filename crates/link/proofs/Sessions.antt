@@ -15,7 +15,8 @@ use Rattle.names.specs.declared.Order.{Order}
 use Rattle.unit.specs.Protocol.{protocol}
 use Rattle.state.specs.declared.Board.{Board}
 use Rattle.state.specs.declared.Call.{Call}
-use Rattle.demands.proofs.Calls.{Answers, refTo, receive-some, keeps-sound}
+use Rattle.demands.specs.Calls.{Answers}
+use Rattle.demands.proofs.Calls.{refTo, receive-some, keeps-sound}
 use Rattle.host.specs.Names.{blockNumber}
 use Rattle.host.specs.declared.Block.{Block}
 use Rattle.host.proofs.Numbered.{number-one}

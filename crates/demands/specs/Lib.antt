@@ -1,0 +1,5 @@
+pub mod Calls
+pub mod Reports
+pub mod Runs
+pub mod Work
+pub mod Times
