@@ -1,0 +1,96 @@
+-- The demands, of the functions that C and Rust link: each allows what the function behind it allows. In quotation marks: the demands by number.
+-- Assumes nothing.
+use Prim.Native.Nat.{ℕ}
+use mathlib.Core.Path.{_≡_, refl, ap, sym, subst, _∙_}
+use mathlib.Core.Bool.{Bool, true, false, cond}
+use mathlib.Core.List.{List, [], _∷_, _++_, map, map-append}
+use lib.Dec.{eqb}
+use lib.ListN.{length, take}
+use Rattle.rule.specs.Run.{Item, at}
+use Rattle.rule.specs.Rule.{Said, quiet, then, wholeRun}
+use Rattle.rule.specs.Calls.{call}
+use Rattle.names.specs.Names.{orderNumber, given}
+use Rattle.names.specs.declared.Order.{Order}
+use Rattle.unit.specs.Unit.{Event, freshMemory}
+use Rattle.unit.specs.Protocol.{protocol}
+use Rattle.state.specs.State.{stateOf}
+use Rattle.state.specs.Sound.{refusalOf}
+use Rattle.state.specs.declared.Board.{Board}
+use Rattle.state.specs.declared.Call.{Call}
+use Rattle.state.proofs.fresh.Reads as fresh
+use Rattle.clock.specs.declared.Report.{Report}
+use Rattle.receiver.specs.Receive.{answer}
+use Rattle.demands.specs.Calls as calls
+use Rattle.demands.specs.Calls.{Answers}
+use Rattle.demands.specs.Reports as reports
+use Rattle.demands.specs.Reports.{Reports}
+use Rattle.demands.specs.Runs as runs
+use Rattle.demands.specs.Runs.{onBoard, done, next}
+use Rattle.demands.proofs.Calls.{promise, refTo, receive-some}
+use Rattle.demands.proofs.Reports.{report-promise, report-some}
+use Rattle.demands.proofs.Runs.{from-fresh}
+use Rattle.board.specs.Answer.{flat, Answered}
+use Rattle.board.specs.declared.Answer.{Answer}
+use Rattle.linked.specs.Board.{Starts, Receives, Hears, allowed, saidBy, numbered, Step, called, told, Offered}
+
+-- ---- each export allows what the function behind it allows, and nothing else
+
+module _ {b : Board} {t : ℕ} {p before after : List ℕ} where
+  -- what it says
+  receives-promise : {r : Answer} → Receives b t p before r after → Answered (call protocol (refusalOf b) (stateOf b) t (length before) p) b before r after
+  receives-promise (allowed κs a s got e f g h k) = rw (← e, ← f, ← g, ← h, ← k) got
+
+  pub receives : {r : Answer} → Receives b t p before r after → (c : Call) × Answers b t p before c after × (r ≡ flat c)
+  receives got =
+      let said = receives-promise got in
+      let c = answer b (call protocol (refusalOf b) (stateOf b) t (length before) p) in
+      (c, subst (λ (l : List ℕ). Answers b t p before c l) (sym (said .reply)) (receive-some b t p before), said .result)
+
+  pub receives-all : {c : Call} → Answers b t p before c after → Receives b t p before (flat c) after
+  receives-all got =
+      let said = promise got in
+      allowed ([], ([], tt)) (b, (refTo p, (t, (refTo before, tt)))) (b, (refTo p, (t, (refTo after, tt)))) (record { result = ap flat (said .result); reply = said .reply })
+      refl refl refl refl refl
+
+module _ {b : Board} {time : ℕ} {r : Report} where
+  pub hears : Hears b time r → Reports b time r
+  hears (allowed κs a s got e f) = subst (Reports b time) (sym (rw (← e, ← f) got)) (report-some b time)
+
+  pub hears-all : Reports b time r → Hears b time r
+  hears-all got = allowed tt (b, (time, tt)) (b, (time, tt)) (report-promise got) refl refl
+
+-- ---- a run
+
+given-numbers : (o : Order) → map orderNumber (given o) ≡ cond (eqb (orderNumber o) 0) [] (orderNumber o ∷ [])
+given-numbers o = by (eqb (orderNumber o) 0)
+  where
+    by : (y : Bool) → map orderNumber (cond y [] (o ∷ [])) ≡ cond y [] (orderNumber o ∷ [])
+    by true = refl
+    by false = refl
+
+-- a step by the exports is a step, with 01's numbers for the orders
+step-is : {b : Board} {items : List (Item Event)} {x : Said ℕ Board} → Step b items x → (y : Said Order Board) × runs.Step b items y × (x ≡ numbered y)
+step-is {b} (called {t = t} {p} {before} {after} {r} got) =
+    let c = receives got in
+    let same : r ≡ flat (c .0) = c .2 in
+    let said : saidBy r after ≡ numbered (runs.saidBy (c .0) after) =
+    ap (λ (y : Answer). saidBy y after) same ∙ (λ i. record { reply = take (c .0 .written) after; orders = sym (given-numbers (c .0 .order)) i; next = c .0 .board }) in
+    (runs.saidBy (c .0) after, subst (λ (k : ℕ). runs.Step b (at t (take k p)) (runs.saidBy (c .0) after)) (ap (λ (y : Answer). y .taken) (sym same)) (runs.called (c .1)), said)
+step-is (told {r = r} got) = (quiet (r .board), runs.told (hears got), refl)
+
+-- and so is a run offered by them
+pub offered-is : {b : Board} {run : List (Item Event)} {x : Said ℕ Board} → Offered b run x → (y : Said Order Board) × runs.Offered b run y × (x ≡ numbered y)
+offered-is (done b) = (quiet b, done b, refl)
+offered-is (next b items rest run x z one more e) =
+    let first = step-is one in
+    let behind = offered-is more in
+    let y = first .0 in
+    let w = behind .0 in
+    let said : then x (λ _. z) ≡ numbered (then y (λ _. w)) =
+    (λ i. then (first .2 i) (λ _. behind .2 i)) ∙ (λ i. record { reply = y .reply ++ w .reply; orders = sym (map-append orderNumber (y .orders) (w .orders)) i; next = w .next }) in
+    (then y (λ _. w), next b items rest run y w (first .1) (subst (λ (c : Board). runs.Offered c rest w) (ap (λ (q : Said ℕ Board). q .next) (first .2)) (behind .1)) e, said)
+
+-- DEMAND 3, of what C and Rust link: "Once all is taken, the replies joined, the orders in sequence, the settings, flags, last refused field, unfinished
+-- bytes and last stamp are those that sheet 01's rule gives for the whole run at once."
+pub linked-cutting : {b : Board} {run : List (Item Event)} {x : Said ℕ Board} → Starts b → Offered b run x → x ≡ numbered (onBoard (wholeRun protocol freshMemory 0 run))
+linked-cutting (allowed κs a s is) h = let y = offered-is h in y .2 ∙ ap numbered (from-fresh tt tt _ tt is (y .1))

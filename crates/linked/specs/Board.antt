@@ -1,0 +1,52 @@
+-- The board's functions as C and Rust link them: what their contracts allow, and a run offered by them.
+use Prim.Native.Nat.{ℕ}
+use mathlib.Core.Path.{_≡_}
+use mathlib.Core.Bool.{cond}
+use mathlib.Core.List.{List, [], _∷_, map}
+use denote.Ref.{now}
+use lib.Dec.{eqb}
+use lib.ListN.{take}
+use Rattle.rule.specs.Run.{Item, at}
+use Rattle.rule.specs.Rule.{Said, quiet}
+use Rattle.names.specs.Names.{orderNumber}
+use Rattle.names.specs.declared.Order.{Order}
+use Rattle.unit.specs.Unit.{Event, clock}
+use Rattle.state.specs.declared.Board.{Board}
+use Rattle.clock.specs.declared.Report.{Report}
+use Rattle.demands.specs.Runs.{heard, OfferedBy}
+use Rattle.board.specs.declared.Answer.{Answer}
+use Rattle.board.proofs.rivertosku_fresh.Reads as fresh
+use Rattle.board.proofs.rivertosku_receive.Reads as receive
+use Rattle.board.proofs.rivertosku_report_clock.Reads as report-clock
+
+-- THE CONTRACT OF RIVERTOSKU_FRESH allows the board b
+pub data Starts (b : Board) : Type 0 where
+  allowed : (κs : _) (a : _) (s : _) → fresh.Post κs a b s → Starts b
+
+-- THE CONTRACT OF RIVERTOSKU_RECEIVE allows the answer r, with the reply buffer `after` at exit, to a call on the board b at the stamp t, with the
+-- piece p and the reply buffer `before` at entry
+pub data Receives (b : Board) (t : ℕ) (p before : List ℕ) (r : Answer) (after : List ℕ) : Type 0 where
+  allowed : (κs : _) (a : _) (s : _) → receive.Post κs a r s
+      → a .0 ≡ b → now (a .1 .0) ≡ p → a .1 .1 .0 ≡ t → now (a .1 .1 .1 .0) ≡ before → now (s .1 .1 .1 .0) ≡ after
+      → Receives b t p before r after
+
+-- THE CONTRACT OF RIVERTOSKU_REPORT_CLOCK allows the answer r to the time `now`, reported to the board b
+pub data Hears (b : Board) (now : ℕ) (r : Report) : Type 0 where
+  allowed : (κs : _) (a : _) (s : _) → report-clock.Post κs a r s → a .0 ≡ b → a .1 .0 ≡ now → Hears b now r
+
+-- what a flat answer says: the bytes written in the buffer, the number of its order, and the next board
+abbrev pub saidBy : Answer → List ℕ → Said ℕ Board
+saidBy r after = record { reply = take (r .written) after; orders = cond (eqb (r .order) 0) [] (r .order ∷ []); next = r .board }
+
+-- what is said, with 01's numbers for the orders
+abbrev pub numbered : Said Order Board → Said ℕ Board
+numbered x = record { reply = x .reply; orders = map orderNumber (x .orders); next = x .next }
+
+-- one step of a main loop of C or Rust
+pub data Step : Board → List (Item Event) → Said ℕ Board → Type 0 where
+  called : {b : Board} {t : ℕ} {p before after : List ℕ} {r : Answer} → Receives b t p before r after → Step b (at t (take (r .taken) p)) (saidBy r after)
+  told : {b : Board} {now : ℕ} {r : Report} → Hears b now r → Step b (heard (r .number) (clock now)) (quiet (r .board))
+
+-- a run offered by such steps in any cutting
+abbrev pub Offered : Board → List (Item Event) → Said ℕ Board → Type 0
+Offered = OfferedBy Step
