@@ -1,7 +1,9 @@
 -- Block brk's own maps, there and back (sheet, `Codec`). Assumes nothing.
 use mathlib.Core.Path.{refl}
-use Prim.Native.Nat.{_<_, _^_}
-use Rattle.wire.proofs.Laid.{room-listed}
+use mathlib.Core.List.{List}
+use Prim.Native.Nat.{ℕ, _<_, _^_}
+use Rattle.wire.specs.Layout.{Room}
+use Rattle.wire.proofs.Laid.{room-listed, room-at}
 use Rattle.sheet.specs.Sheet.{brkRow}
 use Rattle.sheet.specs.Rows.{widths}
 use Rattle.sheet.proofs.Codec.{Codec, always}
@@ -16,8 +18,19 @@ pub record BrkHeld (b : Brk) : Type 0 where
   pub t4 : b .t4 < 2 ^ 16
   pub brakeFlags : b .brakeFlags < 2 ^ 8
 
+brk-held : (ns : List ℕ) → Room (widths brkRow) ns → BrkHeld (brkOf ns)
+brk-held ns h =
+    record {
+      t1 = room-at (widths brkRow) ns 0 h;
+      t2 = room-at (widths brkRow) ns 1 h;
+      t3 = room-at (widths brkRow) ns 2 h;
+      t4 = room-at (widths brkRow) ns 3 h;
+      brakeFlags = room-at (widths brkRow) ns 4 h;
+    }
+
 pub brk-codec : Codec brkRow Brk brkOf brkNumbers BrkHeld
 brk-codec =
     always brkRow Brk brkOf brkNumbers BrkHeld (room-listed (widths brkRow))
     (λ b h. (h .t1, (h .t2, (h .t3, (h .t4, (h .brakeFlags, tt))))))
     (λ b h. refl)
+    brk-held

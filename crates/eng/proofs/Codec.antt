@@ -6,10 +6,10 @@ use mir.Syntax.{w16}
 use mir.Val.{SFits}
 use mir.ValLaws.{ofZ-fits, toZ-ofZ}
 use Rattle.wire.specs.Layout.{Room}
-use Rattle.wire.proofs.Laid.{room-listed}
+use Rattle.wire.proofs.Laid.{room-listed, room-at}
 use Rattle.sheet.specs.Sheet.{engRow}
 use Rattle.sheet.specs.Rows.{widths}
-use Rattle.sheet.proofs.Codec.{Codec, always, signed16}
+use Rattle.sheet.proofs.Codec.{Codec, always, signed16, held16}
 use Rattle.eng.specs.declared.Eng.{Eng}
 use Rattle.eng.specs.Eng.{engOf, engNumbers}
 
@@ -27,8 +27,22 @@ pub record EngHeld (b : Eng) : Type 0 where
 eng-back : (ns : List ℕ) → Room (widths engRow) ns → engNumbers (engOf ns) ≡ ns
 eng-back ns h = rw (signed16 (widths engRow) ns 5 refl h) (room-listed (widths engRow) ns h)
 
+eng-held : (ns : List ℕ) → Room (widths engRow) ns → EngHeld (engOf ns)
+eng-held ns h =
+    record {
+      nomVoltage = room-at (widths engRow) ns 0 h;
+      nomCurrent = room-at (widths engRow) ns 1 h;
+      nomSpeed = room-at (widths engRow) ns 2 h;
+      uNomSpeed = room-at (widths engRow) ns 3 h;
+      engineFlags = room-at (widths engRow) ns 4 h;
+      antiplay = held16 (widths engRow) ns 5 refl h;
+      microstepMode = room-at (widths engRow) ns 6 h;
+      stepsPerRev = room-at (widths engRow) ns 7 h;
+    }
+
 pub eng-codec : Codec engRow Eng engOf engNumbers EngHeld
 eng-codec =
     always engRow Eng engOf engNumbers EngHeld eng-back
     (λ b h. (h .nomVoltage, (h .nomCurrent, (h .nomSpeed, (h .uNomSpeed, (h .engineFlags, (ofZ-fits w16 (b .antiplay) (h .antiplay) .fits, (h .microstepMode, (h .stepsPerRev, tt)))))))))
     (λ b h. rw (toZ-ofZ w16 (b .antiplay) (h .antiplay)))
+    eng-held

@@ -9,6 +9,13 @@ use Rattle.eds.specs.Eds.{edsOf, edsNumbers}
 use Rattle.hom.specs.Hom.{homOf, homNumbers}
 use Rattle.brk.specs.Brk.{brkOf, brkNumbers}
 use Rattle.pid.specs.Pid.{pidOf, pidNumbers}
+use Rattle.mov.proofs.Codec.{MovHeld}
+use Rattle.eng.proofs.Codec.{EngHeld}
+use Rattle.pwr.proofs.Codec.{PwrHeld}
+use Rattle.eds.proofs.Codec.{EdsHeld}
+use Rattle.hom.proofs.Codec.{HomHeld}
+use Rattle.brk.proofs.Codec.{BrkHeld}
+use Rattle.pid.proofs.Codec.{PidHeld}
 use Rattle.host.specs.Names.{rowOf}
 use Rattle.host.specs.declared.Block.{Block}
 use Rattle.host.specs.declared.Block.the-variants as block
@@ -23,6 +30,16 @@ blockOf (fields.Eds x) = block.Eds
 blockOf (fields.Hom x) = block.Hom
 blockOf (fields.Brk x) = block.Brk
 blockOf (fields.Pid x) = block.Pid
+
+-- what the types of a block's fields say of it: each number fits the width of its field
+abbrev pub Typed : Fields → Type 0
+Typed (fields.Mov x) = MovHeld x
+Typed (fields.Eng x) = EngHeld x
+Typed (fields.Pwr x) = PwrHeld x
+Typed (fields.Eds x) = EdsHeld x
+Typed (fields.Hom x) = HomHeld x
+Typed (fields.Brk x) = BrkHeld x
+Typed (fields.Pid x) = PidHeld x
 
 -- the numbers of the fields as they stand on the wire
 abbrev pub fieldNumbers : Fields → List ℕ

@@ -1,7 +1,9 @@
 -- Block mov's own maps, there and back (sheet, `Codec`). Assumes nothing.
 use mathlib.Core.Path.{refl}
-use Prim.Native.Nat.{_<_, _^_}
-use Rattle.wire.proofs.Laid.{room-listed}
+use mathlib.Core.List.{List}
+use Prim.Native.Nat.{ℕ, _<_, _^_}
+use Rattle.wire.specs.Layout.{Room}
+use Rattle.wire.proofs.Laid.{room-listed, room-at}
 use Rattle.sheet.specs.Sheet.{movRow}
 use Rattle.sheet.specs.Rows.{widths}
 use Rattle.sheet.proofs.Codec.{Codec, always}
@@ -17,8 +19,20 @@ pub record MovHeld (b : Mov) : Type 0 where
   pub antiplaySpeed : b .antiplaySpeed < 2 ^ 32
   pub uAntiplaySpeed : b .uAntiplaySpeed < 2 ^ 8
 
+mov-held : (ns : List ℕ) → Room (widths movRow) ns → MovHeld (movOf ns)
+mov-held ns h =
+    record {
+      speed = room-at (widths movRow) ns 0 h;
+      uSpeed = room-at (widths movRow) ns 1 h;
+      accel = room-at (widths movRow) ns 2 h;
+      decel = room-at (widths movRow) ns 3 h;
+      antiplaySpeed = room-at (widths movRow) ns 4 h;
+      uAntiplaySpeed = room-at (widths movRow) ns 5 h;
+    }
+
 pub mov-codec : Codec movRow Mov movOf movNumbers MovHeld
 mov-codec =
     always movRow Mov movOf movNumbers MovHeld (room-listed (widths movRow))
     (λ b h. (h .speed, (h .uSpeed, (h .accel, (h .decel, (h .antiplaySpeed, (h .uAntiplaySpeed, tt)))))))
     (λ b h. refl)
+    mov-held
