@@ -1,22 +1,14 @@
 -- Block brk's own maps, there and back (sheet, `Codec`). Assumes nothing.
 use mathlib.Core.Path.{refl}
 use mathlib.Core.List.{List}
-use Prim.Native.Nat.{ℕ, _<_, _^_}
+use Prim.Native.Nat.{ℕ}
 use Rattle.wire.specs.Layout.{Room}
 use Rattle.wire.proofs.Laid.{room-listed, room-at}
 use Rattle.sheet.specs.Sheet.{brkRow}
 use Rattle.sheet.specs.Rows.{widths}
 use Rattle.sheet.proofs.Codec.{Codec, always}
 use Rattle.brk.specs.declared.Brk.{Brk}
-use Rattle.brk.specs.Brk.{brkOf, brkNumbers}
-
--- what the types of its fields say of a block
-pub record BrkHeld (b : Brk) : Type 0 where
-  pub t1 : b .t1 < 2 ^ 16
-  pub t2 : b .t2 < 2 ^ 16
-  pub t3 : b .t3 < 2 ^ 16
-  pub t4 : b .t4 < 2 ^ 16
-  pub brakeFlags : b .brakeFlags < 2 ^ 8
+use Rattle.brk.specs.Brk.{brkOf, brkNumbers, BrkHeld}
 
 brk-held : (ns : List ℕ) → Room (widths brkRow) ns → BrkHeld (brkOf ns)
 brk-held ns h =

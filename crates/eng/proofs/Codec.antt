@@ -1,9 +1,8 @@
 -- Block eng's own maps, there and back (sheet, `Codec`). Assumes nothing.
 use mathlib.Core.Path.{_≡_, refl}
 use mathlib.Core.List.{List}
-use Prim.Native.Nat.{ℕ, _<_, _^_}
+use Prim.Native.Nat.{ℕ}
 use mir.Syntax.{w16}
-use mir.Val.{SFits}
 use mir.ValLaws.{ofZ-fits, toZ-ofZ}
 use Rattle.wire.specs.Layout.{Room}
 use Rattle.wire.proofs.Laid.{room-listed, room-at}
@@ -11,18 +10,7 @@ use Rattle.sheet.specs.Sheet.{engRow}
 use Rattle.sheet.specs.Rows.{widths}
 use Rattle.sheet.proofs.Codec.{Codec, always, signed16, held16}
 use Rattle.eng.specs.declared.Eng.{Eng}
-use Rattle.eng.specs.Eng.{engOf, engNumbers}
-
--- what the types of its fields say of a block
-pub record EngHeld (b : Eng) : Type 0 where
-  pub nomVoltage : b .nomVoltage < 2 ^ 16
-  pub nomCurrent : b .nomCurrent < 2 ^ 16
-  pub nomSpeed : b .nomSpeed < 2 ^ 32
-  pub uNomSpeed : b .uNomSpeed < 2 ^ 8
-  pub engineFlags : b .engineFlags < 2 ^ 16
-  pub antiplay : SFits w16 (b .antiplay)
-  pub microstepMode : b .microstepMode < 2 ^ 8
-  pub stepsPerRev : b .stepsPerRev < 2 ^ 16
+use Rattle.eng.specs.Eng.{engOf, engNumbers, EngHeld}
 
 eng-back : (ns : List ℕ) → Room (widths engRow) ns → engNumbers (engOf ns) ≡ ns
 eng-back ns h = rw (signed16 (widths engRow) ns 5 refl h) (room-listed (widths engRow) ns h)

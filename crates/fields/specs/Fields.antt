@@ -2,20 +2,13 @@
 use mathlib.Core.List.{List}
 use Prim.Native.Nat.{ℕ}
 use Rattle.sheet.specs.Rows.{numbersIn, dataOf, firstBad}
-use Rattle.mov.specs.Mov.{movOf, movNumbers}
-use Rattle.eng.specs.Eng.{engOf, engNumbers}
-use Rattle.pwr.specs.Pwr.{pwrOf, pwrNumbers}
-use Rattle.eds.specs.Eds.{edsOf, edsNumbers}
-use Rattle.hom.specs.Hom.{homOf, homNumbers}
-use Rattle.brk.specs.Brk.{brkOf, brkNumbers}
-use Rattle.pid.specs.Pid.{pidOf, pidNumbers}
-use Rattle.mov.proofs.Codec.{MovHeld}
-use Rattle.eng.proofs.Codec.{EngHeld}
-use Rattle.pwr.proofs.Codec.{PwrHeld}
-use Rattle.eds.proofs.Codec.{EdsHeld}
-use Rattle.hom.proofs.Codec.{HomHeld}
-use Rattle.brk.proofs.Codec.{BrkHeld}
-use Rattle.pid.proofs.Codec.{PidHeld}
+use Rattle.mov.specs.Mov.{movOf, movNumbers, MovHeld}
+use Rattle.eng.specs.Eng.{engOf, engNumbers, EngHeld}
+use Rattle.pwr.specs.Pwr.{pwrOf, pwrNumbers, PwrHeld}
+use Rattle.eds.specs.Eds.{edsOf, edsNumbers, EdsHeld}
+use Rattle.hom.specs.Hom.{homOf, homNumbers, HomHeld}
+use Rattle.brk.specs.Brk.{brkOf, brkNumbers, BrkHeld}
+use Rattle.pid.specs.Pid.{pidOf, pidNumbers, PidHeld}
 use Rattle.host.specs.Names.{rowOf}
 use Rattle.host.specs.declared.Block.{Block}
 use Rattle.host.specs.declared.Block.the-variants as block

@@ -1,9 +1,8 @@
 -- Block hom's own maps, there and back (sheet, `Codec`). Assumes nothing.
 use mathlib.Core.Path.{_≡_, refl}
 use mathlib.Core.List.{List}
-use Prim.Native.Nat.{ℕ, _<_, _^_}
+use Prim.Native.Nat.{ℕ}
 use mir.Syntax.{w16, w32}
-use mir.Val.{SFits}
 use mir.ValLaws.{ofZ-fits, toZ-ofZ}
 use Rattle.wire.specs.Layout.{Room}
 use Rattle.wire.proofs.Laid.{room-listed, room-at}
@@ -11,17 +10,7 @@ use Rattle.sheet.specs.Sheet.{homRow}
 use Rattle.sheet.specs.Rows.{widths}
 use Rattle.sheet.proofs.Codec.{Codec, always, signed16, signed32, held16, held32}
 use Rattle.hom.specs.declared.Hom.{Hom}
-use Rattle.hom.specs.Hom.{homOf, homNumbers}
-
--- what the types of its fields say of a block
-pub record HomHeld (b : Hom) : Type 0 where
-  pub fastHome : b .fastHome < 2 ^ 32
-  pub uFastHome : b .uFastHome < 2 ^ 8
-  pub slowHome : b .slowHome < 2 ^ 32
-  pub uSlowHome : b .uSlowHome < 2 ^ 8
-  pub homeDelta : SFits w32 (b .homeDelta)
-  pub uHomeDelta : SFits w16 (b .uHomeDelta)
-  pub homeFlags : b .homeFlags < 2 ^ 16
+use Rattle.hom.specs.Hom.{homOf, homNumbers, HomHeld}
 
 hom-back : (ns : List ℕ) → Room (widths homRow) ns → homNumbers (homOf ns) ≡ ns
 hom-back ns h = rw (signed32 (widths homRow) ns 4 refl h, signed16 (widths homRow) ns 5 refl h) (room-listed (widths homRow) ns h)

@@ -1,4 +1,5 @@
--- What the board does with the frame of a request, and what the reader makes of its reply: over the definitions. Assumes nothing.
+-- What the board does with the frame of a request, and what the reader makes of its reply: over the definitions.
+-- In quotation marks: sheet 02, P1. Assumes nothing.
 use mathlib.Core.Path.{_≡_, refl, sym, ap, _∙_}
 use mathlib.Core.Bool.{Bool, true, false, cond}
 use mathlib.Core.List.{List, [], _++_, append-nil}

@@ -8,11 +8,11 @@ use lib.ListN.{length, take}
 use borrow.Author.Tests.{eqb-true}
 use Rattle.wire.specs.Layout.{Room}
 use Rattle.wire.proofs.Numbers.{append-low}
-use Rattle.ranges.specs.Tests.{within, signedWithin, finite, onlyBits}
 use Rattle.frame.specs.Frame.{dataIn}
 use Rattle.sheet.specs.Sheet.{Row}
-use Rattle.sheet.specs.Rows.{rowAt, widths, numbersIn, fresh, least}
+use Rattle.sheet.specs.Rows.{rowAt, widths, numbersIn, fresh}
 use Rattle.sheet.proofs.Laws.{numbers-fit}
+use Rattle.sheet.proofs.Table.{fresh-room}
 use Rattle.settings.specs.declared.Settings.{Settings}
 use Rattle.settings.specs.Settings.{putAt, freshSettings}
 use Rattle.rule.specs.Run.{Item, bytes, at}
@@ -86,14 +86,13 @@ steps-typed r s low h =
 -- ---- A FRESH BOARD
 
 fresh-fields : TypedBook (bookOf freshSettings)
-unfolding least within signedWithin finite onlyBits
-fresh-fields Mov = fields-typed Mov (fresh (rowOf Mov)) (omega arith)
-fresh-fields Eng = fields-typed Eng (fresh (rowOf Eng)) (omega arith)
-fresh-fields Pwr = fields-typed Pwr (fresh (rowOf Pwr)) (omega arith)
-fresh-fields Eds = fields-typed Eds (fresh (rowOf Eds)) (omega arith)
-fresh-fields Hom = fields-typed Hom (fresh (rowOf Hom)) (omega arith)
-fresh-fields Brk = fields-typed Brk (fresh (rowOf Brk)) (omega arith)
-fresh-fields Pid = fields-typed Pid (fresh (rowOf Pid)) (omega arith)
+fresh-fields Mov = fields-typed Mov (fresh (rowOf Mov)) (fresh-room 1)
+fresh-fields Eng = fields-typed Eng (fresh (rowOf Eng)) (fresh-room 2)
+fresh-fields Pwr = fields-typed Pwr (fresh (rowOf Pwr)) (fresh-room 3)
+fresh-fields Eds = fields-typed Eds (fresh (rowOf Eds)) (fresh-room 4)
+fresh-fields Hom = fields-typed Hom (fresh (rowOf Hom)) (fresh-room 5)
+fresh-fields Brk = fields-typed Brk (fresh (rowOf Brk)) (fresh-room 6)
+fresh-fields Pid = fields-typed Pid (fresh (rowOf Pid)) (fresh-room 7)
 
 -- what `state::fresh` promises
 pub fresh-typed : (κs : _) (a : _) (b s : _) → state-fresh.Post κs a b s → TypedBoard b

@@ -1,23 +1,14 @@
 -- Block mov's own maps, there and back (sheet, `Codec`). Assumes nothing.
 use mathlib.Core.Path.{refl}
 use mathlib.Core.List.{List}
-use Prim.Native.Nat.{ℕ, _<_, _^_}
+use Prim.Native.Nat.{ℕ}
 use Rattle.wire.specs.Layout.{Room}
 use Rattle.wire.proofs.Laid.{room-listed, room-at}
 use Rattle.sheet.specs.Sheet.{movRow}
 use Rattle.sheet.specs.Rows.{widths}
 use Rattle.sheet.proofs.Codec.{Codec, always}
 use Rattle.mov.specs.declared.Mov.{Mov}
-use Rattle.mov.specs.Mov.{movOf, movNumbers}
-
--- what the types of its fields say of a block
-pub record MovHeld (b : Mov) : Type 0 where
-  pub speed : b .speed < 2 ^ 32
-  pub uSpeed : b .uSpeed < 2 ^ 8
-  pub accel : b .accel < 2 ^ 16
-  pub decel : b .decel < 2 ^ 16
-  pub antiplaySpeed : b .antiplaySpeed < 2 ^ 32
-  pub uAntiplaySpeed : b .uAntiplaySpeed < 2 ^ 8
+use Rattle.mov.specs.Mov.{movOf, movNumbers, MovHeld}
 
 mov-held : (ns : List ℕ) → Room (widths movRow) ns → MovHeld (movOf ns)
 mov-held ns h =

@@ -1,10 +1,10 @@
 -- Block pid's own maps, there and back (sheet, `Codec`). Assumes nothing.
 use mathlib.Core.Path.{_≡_}
 use mathlib.Core.List.{List}
-use Prim.Native.Nat.{ℕ, _<_, _^_}
-use lib.Dec.{T, lit<}
+use Prim.Native.Nat.{ℕ}
+use lib.Dec.{lit<}
 use lib.ListN.{getD}
-use lib.Ieee.{binary32, fits}
+use lib.Ieee.{binary32}
 use lib.Ieee.Bits.{ofBits-toBits, ofBits-fits, toBits-lt}
 use Rattle.wire.specs.Layout.{Room}
 use Rattle.wire.proofs.Laid.{room-listed, room-at}
@@ -14,16 +14,7 @@ use Rattle.sheet.specs.Sheet.{pidRow}
 use Rattle.sheet.specs.Rows.{widths, firstBad, verdicts}
 use Rattle.sheet.proofs.Codec.{Codec}
 use Rattle.pid.specs.declared.Pid.{Pid}
-use Rattle.pid.specs.Pid.{pidOf, pidNumbers}
-
--- what the types of its fields say of a block
-pub record PidHeld (b : Pid) : Type 0 where
-  pub kpU : b .kpU < 2 ^ 16
-  pub kiU : b .kiU < 2 ^ 16
-  pub kdU : b .kdU < 2 ^ 16
-  pub kpf : T (fits binary32 (b .kpf))
-  pub kif : T (fits binary32 (b .kif))
-  pub kdf : T (fits binary32 (b .kdf))
+use Rattle.pid.specs.Pid.{pidOf, pidNumbers, PidHeld}
 
 pid-back : (ns : List ℕ) → Room (widths pidRow) ns → firstBad pidRow ns ≡ 0 → pidNumbers (pidOf ns) ≡ ns
 pid-back ns h e =
