@@ -99,7 +99,7 @@ pub fresh-typed : (κs : _) (a : _) (b s : _) → state-fresh.Post κs a b s →
 fresh-typed κs a b s is =
     subst TypedState (sym (ap stateOf is ∙ state-board freshState)) (record { fields = fresh-fields; bytes = λ i. omega arith })
 
--- ---- IT IS KEPT, by whatever the contracts allow. A piece is bytes by its type
+-- ---- IT IS KEPT, by whatever the contracts allow. A piece is bytes by its type; the numbers of larger ones need not fit (wire, `leAt`)
 
 pub call-typed : {b : Board} {t : ℕ} {p before after : List ℕ} {r : Call} → Answers b t p before r after → OfBytes (take (r .taken) p)
     → TypedBoard b → TypedBoard (r .board)
