@@ -140,13 +140,13 @@ in-time : (n t : ℕ) → InTime t (replicate n t)
 in-time zero t = tt
 in-time (suc n) t = (late-self t, in-time n t)
 
-pub sendable : (t : ℕ) (qs : List Request) → Sendable qs → (xs : List Sent) × (requestsOf xs ≡ qs)
-sendable t [] good = ([], refl)
-sendable t (q ∷ qs) good =
+pub sent-some : (t : ℕ) (qs : List Request) → Sendable qs → (xs : List Sent) × (requestsOf xs ≡ qs)
+sent-some t [] good = ([], refl)
+sent-some t (q ∷ qs) good =
     let n = length (frameOf q) in
     let room : List ℕ = replicate longestFrame 0 in
     let w = write-good q room (good .0 .1) (omega (arith, frame-most q)) in
-    let rest = sendable t qs (good .1) in
+    let rest = sent-some t qs (good .1) in
     let others : List ℕ = replicate (n - 1) t in
     let each : n ≡ suc (length others) = omega (arith, frame-least q, length-replicate (n - 1) t) in
     (record { request = q; typed = good .0 .0; room = room; size = n; out = w .0; written = w .1; first = t; others = others; each = each; inTime = in-time (n - 1) t } ∷ rest .0, ap (λ (l : List Request). q ∷ l) (rest .1))
