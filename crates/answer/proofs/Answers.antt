@@ -13,7 +13,7 @@ use Rattle.frame.specs.Frame.{framed, dataIn}
 use Rattle.frame.proofs.Frames.{frame-length, frame-name, frame-data, frame-intact}
 use Rattle.keyed.specs.Keyed.{valueIn}
 use Rattle.host.specs.Names.{rowOf, setOf, getOf, orderName, blockAt, getNamed}
-use Rattle.fields.specs.Fields.{blockOf, fieldsIn, sectionOf}
+use Rattle.fields.specs.Fields.{blockOf, Typed, fieldsIn, sectionOf}
 use Rattle.answer.specs.Answer.{answerOf, errorAnswer, orderAnswer, letteredAnswer, dataElse, firstAnswer}
 use Rattle.host.specs.declared.Block.{Block}
 use Rattle.host.specs.declared.Block.the-variants.{Mov, Eng, Pwr, Eds, Hom, Brk, Pid}
@@ -25,7 +25,7 @@ use Rattle.fields.specs.declared.Fields.{Fields}
 use Rattle.answer.specs.declared.Answer.the-variants.{SetEcho, OrderEcho, Data, Errc, Errd, Errv}
 use Rattle.host.proofs.Numbered.{Plain, set-plain, get-plain, order-plain}
 use Rattle.host.proofs.Totals.{total-least}
-use Rattle.fields.proofs.Sections.{section-length, section-low, Typed, section-back}
+use Rattle.fields.proofs.Sections.{section-length, section-low, section-back}
 use Rattle.answer.proofs.Ways.{first-named, named-as, data-taken}
 
 -- ---- four letters

@@ -1,23 +1,28 @@
 -- Block brk's own maps, there and back (sheet, `Codec`). Assumes nothing.
 use mathlib.Core.Path.{refl}
-use Prim.Native.Nat.{_<_, _^_}
-use Rattle.wire.proofs.Laid.{room-listed}
+use mathlib.Core.List.{List}
+use Prim.Native.Nat.{ℕ}
+use Rattle.wire.specs.Layout.{Room}
+use Rattle.wire.proofs.Laid.{room-listed, room-at}
 use Rattle.sheet.specs.Sheet.{brkRow}
 use Rattle.sheet.specs.Rows.{widths}
 use Rattle.sheet.proofs.Codec.{Codec, always}
 use Rattle.brk.specs.declared.Brk.{Brk}
-use Rattle.brk.specs.Brk.{brkOf, brkNumbers}
+use Rattle.brk.specs.Brk.{brkOf, brkNumbers, BrkHeld}
 
--- what the types of its fields say of a block
-pub record BrkHeld (b : Brk) : Type 0 where
-  pub t1 : b .t1 < 2 ^ 16
-  pub t2 : b .t2 < 2 ^ 16
-  pub t3 : b .t3 < 2 ^ 16
-  pub t4 : b .t4 < 2 ^ 16
-  pub brakeFlags : b .brakeFlags < 2 ^ 8
+brk-held : (ns : List ℕ) → Room (widths brkRow) ns → BrkHeld (brkOf ns)
+brk-held ns h =
+    record {
+      t1 = room-at (widths brkRow) ns 0 h;
+      t2 = room-at (widths brkRow) ns 1 h;
+      t3 = room-at (widths brkRow) ns 2 h;
+      t4 = room-at (widths brkRow) ns 3 h;
+      brakeFlags = room-at (widths brkRow) ns 4 h;
+    }
 
 pub brk-codec : Codec brkRow Brk brkOf brkNumbers BrkHeld
 brk-codec =
     always brkRow Brk brkOf brkNumbers BrkHeld (room-listed (widths brkRow))
     (λ b h. (h .t1, (h .t2, (h .t3, (h .t4, (h .brakeFlags, tt))))))
     (λ b h. refl)
+    brk-held

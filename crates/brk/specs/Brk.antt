@@ -1,6 +1,6 @@
--- Block 6, brk: the record that numbers stand for, and a record's numbers.
+-- Block 6, brk: the record that numbers stand for, a record's numbers, and what its fields' types say.
 use mathlib.Core.List.{List, [], _∷_}
-use Prim.Native.Nat.{ℕ}
+use Prim.Native.Nat.{ℕ, _^_, _<_}
 use lib.ListN.{getD}
 use Rattle.brk.specs.declared.Brk.{Brk}
 
@@ -16,3 +16,11 @@ brkOf ns =
 
 abbrev pub brkNumbers : Brk → List ℕ
 brkNumbers b = b .t1 ∷ b .t2 ∷ b .t3 ∷ b .t4 ∷ b .brakeFlags ∷ []
+
+-- what the types of its fields say of a block
+pub record BrkHeld (b : Brk) : Type 0 where
+  pub t1 : b .t1 < 2 ^ 16
+  pub t2 : b .t2 < 2 ^ 16
+  pub t3 : b .t3 < 2 ^ 16
+  pub t4 : b .t4 < 2 ^ 16
+  pub brakeFlags : b .brakeFlags < 2 ^ 8

@@ -1,32 +1,34 @@
 -- Block eds's own maps, there and back (sheet, `Codec`). Assumes nothing.
 use mathlib.Core.Path.{_≡_, refl}
 use mathlib.Core.List.{List}
-use Prim.Native.Nat.{ℕ, _<_, _^_}
+use Prim.Native.Nat.{ℕ}
 use mir.Syntax.{w16, w32}
-use mir.Val.{SFits}
 use mir.ValLaws.{ofZ-fits, toZ-ofZ}
 use Rattle.wire.specs.Layout.{Room}
-use Rattle.wire.proofs.Laid.{room-listed}
+use Rattle.wire.proofs.Laid.{room-listed, room-at}
 use Rattle.sheet.specs.Sheet.{edsRow}
 use Rattle.sheet.specs.Rows.{widths}
-use Rattle.sheet.proofs.Codec.{Codec, always, signed16, signed32}
+use Rattle.sheet.proofs.Codec.{Codec, always, signed16, signed32, held16, held32}
 use Rattle.eds.specs.declared.Eds.{Eds}
-use Rattle.eds.specs.Eds.{edsOf, edsNumbers}
-
--- what the types of its fields say of a block
-pub record EdsHeld (b : Eds) : Type 0 where
-  pub borderFlags : b .borderFlags < 2 ^ 8
-  pub enderFlags : b .enderFlags < 2 ^ 8
-  pub leftBorder : SFits w32 (b .leftBorder)
-  pub uLeftBorder : SFits w16 (b .uLeftBorder)
-  pub rightBorder : SFits w32 (b .rightBorder)
-  pub uRightBorder : SFits w16 (b .uRightBorder)
+use Rattle.eds.specs.Eds.{edsOf, edsNumbers, EdsHeld}
 
 eds-back : (ns : List ℕ) → Room (widths edsRow) ns → edsNumbers (edsOf ns) ≡ ns
 eds-back ns h = rw (signed32 (widths edsRow) ns 2 refl h, signed16 (widths edsRow) ns 3 refl h, signed32 (widths edsRow) ns 4 refl h, signed16 (widths edsRow) ns 5 refl h) (room-listed (widths edsRow) ns h)
+
+eds-held : (ns : List ℕ) → Room (widths edsRow) ns → EdsHeld (edsOf ns)
+eds-held ns h =
+    record {
+      borderFlags = room-at (widths edsRow) ns 0 h;
+      enderFlags = room-at (widths edsRow) ns 1 h;
+      leftBorder = held32 (widths edsRow) ns 2 refl h;
+      uLeftBorder = held16 (widths edsRow) ns 3 refl h;
+      rightBorder = held32 (widths edsRow) ns 4 refl h;
+      uRightBorder = held16 (widths edsRow) ns 5 refl h;
+    }
 
 pub eds-codec : Codec edsRow Eds edsOf edsNumbers EdsHeld
 eds-codec =
     always edsRow Eds edsOf edsNumbers EdsHeld eds-back
     (λ b h. (h .borderFlags, (h .enderFlags, (ofZ-fits w32 (b .leftBorder) (h .leftBorder) .fits, (ofZ-fits w16 (b .uLeftBorder) (h .uLeftBorder) .fits, (ofZ-fits w32 (b .rightBorder) (h .rightBorder) .fits, (ofZ-fits w16 (b .uRightBorder) (h .uRightBorder) .fits, tt)))))))
     (λ b h. rw (toZ-ofZ w32 (b .leftBorder) (h .leftBorder), toZ-ofZ w16 (b .uLeftBorder) (h .uLeftBorder), toZ-ofZ w32 (b .rightBorder) (h .rightBorder), toZ-ofZ w16 (b .uRightBorder) (h .uRightBorder)))
+    eds-held

@@ -1,9 +1,9 @@
--- Block 4, eds: the record that numbers stand for, and a record's numbers.
+-- Block 4, eds: the record that numbers stand for, a record's numbers, and what its fields' types say.
 use mathlib.Core.List.{List, [], _∷_}
-use Prim.Native.Nat.{ℕ}
+use Prim.Native.Nat.{ℕ, _^_, _<_}
 use lib.ListN.{getD}
 use mir.Syntax.{w16, w32}
-use mir.Val.{toZ, ofZ}
+use mir.Val.{SFits, toZ, ofZ}
 use Rattle.eds.specs.declared.Eds.{Eds}
 
 abbrev pub edsOf : List ℕ → Eds
@@ -19,3 +19,12 @@ edsOf ns =
 
 abbrev pub edsNumbers : Eds → List ℕ
 edsNumbers b = b .borderFlags ∷ b .enderFlags ∷ ofZ w32 (b .leftBorder) ∷ ofZ w16 (b .uLeftBorder) ∷ ofZ w32 (b .rightBorder) ∷ ofZ w16 (b .uRightBorder) ∷ []
+
+-- what the types of its fields say of a block
+pub record EdsHeld (b : Eds) : Type 0 where
+  pub borderFlags : b .borderFlags < 2 ^ 8
+  pub enderFlags : b .enderFlags < 2 ^ 8
+  pub leftBorder : SFits w32 (b .leftBorder)
+  pub uLeftBorder : SFits w16 (b .uLeftBorder)
+  pub rightBorder : SFits w32 (b .rightBorder)
+  pub uRightBorder : SFits w16 (b .uRightBorder)

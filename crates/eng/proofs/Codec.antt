@@ -1,34 +1,36 @@
 -- Block eng's own maps, there and back (sheet, `Codec`). Assumes nothing.
 use mathlib.Core.Path.{_≡_, refl}
 use mathlib.Core.List.{List}
-use Prim.Native.Nat.{ℕ, _<_, _^_}
+use Prim.Native.Nat.{ℕ}
 use mir.Syntax.{w16}
-use mir.Val.{SFits}
 use mir.ValLaws.{ofZ-fits, toZ-ofZ}
 use Rattle.wire.specs.Layout.{Room}
-use Rattle.wire.proofs.Laid.{room-listed}
+use Rattle.wire.proofs.Laid.{room-listed, room-at}
 use Rattle.sheet.specs.Sheet.{engRow}
 use Rattle.sheet.specs.Rows.{widths}
-use Rattle.sheet.proofs.Codec.{Codec, always, signed16}
+use Rattle.sheet.proofs.Codec.{Codec, always, signed16, held16}
 use Rattle.eng.specs.declared.Eng.{Eng}
-use Rattle.eng.specs.Eng.{engOf, engNumbers}
-
--- what the types of its fields say of a block
-pub record EngHeld (b : Eng) : Type 0 where
-  pub nomVoltage : b .nomVoltage < 2 ^ 16
-  pub nomCurrent : b .nomCurrent < 2 ^ 16
-  pub nomSpeed : b .nomSpeed < 2 ^ 32
-  pub uNomSpeed : b .uNomSpeed < 2 ^ 8
-  pub engineFlags : b .engineFlags < 2 ^ 16
-  pub antiplay : SFits w16 (b .antiplay)
-  pub microstepMode : b .microstepMode < 2 ^ 8
-  pub stepsPerRev : b .stepsPerRev < 2 ^ 16
+use Rattle.eng.specs.Eng.{engOf, engNumbers, EngHeld}
 
 eng-back : (ns : List ℕ) → Room (widths engRow) ns → engNumbers (engOf ns) ≡ ns
 eng-back ns h = rw (signed16 (widths engRow) ns 5 refl h) (room-listed (widths engRow) ns h)
+
+eng-held : (ns : List ℕ) → Room (widths engRow) ns → EngHeld (engOf ns)
+eng-held ns h =
+    record {
+      nomVoltage = room-at (widths engRow) ns 0 h;
+      nomCurrent = room-at (widths engRow) ns 1 h;
+      nomSpeed = room-at (widths engRow) ns 2 h;
+      uNomSpeed = room-at (widths engRow) ns 3 h;
+      engineFlags = room-at (widths engRow) ns 4 h;
+      antiplay = held16 (widths engRow) ns 5 refl h;
+      microstepMode = room-at (widths engRow) ns 6 h;
+      stepsPerRev = room-at (widths engRow) ns 7 h;
+    }
 
 pub eng-codec : Codec engRow Eng engOf engNumbers EngHeld
 eng-codec =
     always engRow Eng engOf engNumbers EngHeld eng-back
     (λ b h. (h .nomVoltage, (h .nomCurrent, (h .nomSpeed, (h .uNomSpeed, (h .engineFlags, (ofZ-fits w16 (b .antiplay) (h .antiplay) .fits, (h .microstepMode, (h .stepsPerRev, tt)))))))))
     (λ b h. rw (toZ-ofZ w16 (b .antiplay) (h .antiplay)))
+    eng-held

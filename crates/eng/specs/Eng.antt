@@ -1,9 +1,9 @@
--- Block 2, eng: the record that numbers stand for, and a record's numbers.
+-- Block 2, eng: the record that numbers stand for, a record's numbers, and what its fields' types say.
 use mathlib.Core.List.{List, [], _∷_}
-use Prim.Native.Nat.{ℕ}
+use Prim.Native.Nat.{ℕ, _^_, _<_}
 use lib.ListN.{getD}
 use mir.Syntax.{w16}
-use mir.Val.{toZ, ofZ}
+use mir.Val.{SFits, toZ, ofZ}
 use Rattle.eng.specs.declared.Eng.{Eng}
 
 abbrev pub engOf : List ℕ → Eng
@@ -21,3 +21,14 @@ engOf ns =
 
 abbrev pub engNumbers : Eng → List ℕ
 engNumbers b = b .nomVoltage ∷ b .nomCurrent ∷ b .nomSpeed ∷ b .uNomSpeed ∷ b .engineFlags ∷ ofZ w16 (b .antiplay) ∷ b .microstepMode ∷ b .stepsPerRev ∷ []
+
+-- what the types of its fields say of a block
+pub record EngHeld (b : Eng) : Type 0 where
+  pub nomVoltage : b .nomVoltage < 2 ^ 16
+  pub nomCurrent : b .nomCurrent < 2 ^ 16
+  pub nomSpeed : b .nomSpeed < 2 ^ 32
+  pub uNomSpeed : b .uNomSpeed < 2 ^ 8
+  pub engineFlags : b .engineFlags < 2 ^ 16
+  pub antiplay : SFits w16 (b .antiplay)
+  pub microstepMode : b .microstepMode < 2 ^ 8
+  pub stepsPerRev : b .stepsPerRev < 2 ^ 16

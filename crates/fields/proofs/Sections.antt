@@ -1,21 +1,23 @@
 -- Laws of the fields of a block and their data section, over the fields. Assumes nothing.
 use mathlib.Core.Path.{_≡_, sym, ap, _∙_}
-use mathlib.Core.List.{[], _∷_, _++_, append-nil}
+use mathlib.Core.List.{List, [], _∷_, _++_, append-nil}
 use Prim.Native.Nat.{ℕ, _-_, _<_}
 use lib.ListN.{length, getD}
 use Rattle.wire.specs.Layout.{Room}
 use Rattle.wire.proofs.Laid.{laid-low}
 use Rattle.sheet.specs.Rows.{widths, total, numbersIn}
 use Rattle.sheet.proofs.Laws.{data-length, read-back}
-use Rattle.mov.proofs.Codec.{MovHeld, mov-codec}
-use Rattle.eng.proofs.Codec.{EngHeld, eng-codec}
-use Rattle.pwr.proofs.Codec.{PwrHeld, pwr-codec}
-use Rattle.eds.proofs.Codec.{EdsHeld, eds-codec}
-use Rattle.hom.proofs.Codec.{HomHeld, hom-codec}
-use Rattle.brk.proofs.Codec.{BrkHeld, brk-codec}
-use Rattle.pid.proofs.Codec.{PidHeld, pid-codec}
+use Rattle.mov.proofs.Codec.{mov-codec}
+use Rattle.eng.proofs.Codec.{eng-codec}
+use Rattle.pwr.proofs.Codec.{pwr-codec}
+use Rattle.eds.proofs.Codec.{eds-codec}
+use Rattle.hom.proofs.Codec.{hom-codec}
+use Rattle.brk.proofs.Codec.{brk-codec}
+use Rattle.pid.proofs.Codec.{pid-codec}
 use Rattle.host.specs.Names.{rowOf}
-use Rattle.fields.specs.Fields.{blockOf, fieldNumbers, fieldsOf, fieldsIn, sectionOf}
+use Rattle.host.specs.declared.Block.{Block}
+use Rattle.host.specs.declared.Block.the-variants as block
+use Rattle.fields.specs.Fields.{blockOf, Typed, fieldNumbers, fieldsOf, fieldsIn, sectionOf}
 use Rattle.fields.specs.declared.Fields.{Fields}
 use Rattle.fields.specs.declared.Fields.the-variants as fields
 
@@ -26,16 +28,6 @@ pub section-low : (f : Fields) (i : ℕ) → getD (sectionOf f) i 0 < 256
 section-low f i = laid-low (widths (rowOf (blockOf f)) ++ rowOf (blockOf f) .reserved ∷ []) (fieldNumbers f) i
 
 -- ---- the fields come back from their data section
-
--- what the types of a block's fields say of it
-abbrev pub Typed : Fields → Type 0
-Typed (fields.Mov x) = MovHeld x
-Typed (fields.Eng x) = EngHeld x
-Typed (fields.Pwr x) = PwrHeld x
-Typed (fields.Eds x) = EdsHeld x
-Typed (fields.Hom x) = HomHeld x
-Typed (fields.Brk x) = BrkHeld x
-Typed (fields.Pid x) = PidHeld x
 
 fields-room : (f : Fields) → Typed f → Room (widths (rowOf (blockOf f))) (fieldNumbers f)
 fields-room (fields.Mov x) h = mov-codec .room x h
@@ -61,3 +53,14 @@ numbers-back f h =
 
 pub section-back : (f : Fields) → Typed f → fieldsIn (blockOf f) (sectionOf f) ≡ f
 section-back f h = ap (fieldsOf (blockOf f)) (numbers-back f h) ∙ fields-back f h
+
+-- ---- numbers that have room stand for fields that fit their types: so do those of a data section of bytes (sheet, `numbers-fit`)
+
+pub fields-typed : (b : Block) (ns : List ℕ) → Room (widths (rowOf b)) ns → Typed (fieldsOf b ns)
+fields-typed block.Mov ns h = mov-codec .held ns h
+fields-typed block.Eng ns h = eng-codec .held ns h
+fields-typed block.Pwr ns h = pwr-codec .held ns h
+fields-typed block.Eds ns h = eds-codec .held ns h
+fields-typed block.Hom ns h = hom-codec .held ns h
+fields-typed block.Brk ns h = brk-codec .held ns h
+fields-typed block.Pid ns h = pid-codec .held ns h

@@ -2,13 +2,13 @@
 use mathlib.Core.List.{List}
 use Prim.Native.Nat.{ℕ}
 use Rattle.sheet.specs.Rows.{numbersIn, dataOf, firstBad}
-use Rattle.mov.specs.Mov.{movOf, movNumbers}
-use Rattle.eng.specs.Eng.{engOf, engNumbers}
-use Rattle.pwr.specs.Pwr.{pwrOf, pwrNumbers}
-use Rattle.eds.specs.Eds.{edsOf, edsNumbers}
-use Rattle.hom.specs.Hom.{homOf, homNumbers}
-use Rattle.brk.specs.Brk.{brkOf, brkNumbers}
-use Rattle.pid.specs.Pid.{pidOf, pidNumbers}
+use Rattle.mov.specs.Mov.{movOf, movNumbers, MovHeld}
+use Rattle.eng.specs.Eng.{engOf, engNumbers, EngHeld}
+use Rattle.pwr.specs.Pwr.{pwrOf, pwrNumbers, PwrHeld}
+use Rattle.eds.specs.Eds.{edsOf, edsNumbers, EdsHeld}
+use Rattle.hom.specs.Hom.{homOf, homNumbers, HomHeld}
+use Rattle.brk.specs.Brk.{brkOf, brkNumbers, BrkHeld}
+use Rattle.pid.specs.Pid.{pidOf, pidNumbers, PidHeld}
 use Rattle.host.specs.Names.{rowOf}
 use Rattle.host.specs.declared.Block.{Block}
 use Rattle.host.specs.declared.Block.the-variants as block
@@ -23,6 +23,16 @@ blockOf (fields.Eds x) = block.Eds
 blockOf (fields.Hom x) = block.Hom
 blockOf (fields.Brk x) = block.Brk
 blockOf (fields.Pid x) = block.Pid
+
+-- what the types of a block's fields say of it: each number fits the width of its field
+abbrev pub Typed : Fields → Type 0
+Typed (fields.Mov x) = MovHeld x
+Typed (fields.Eng x) = EngHeld x
+Typed (fields.Pwr x) = PwrHeld x
+Typed (fields.Eds x) = EdsHeld x
+Typed (fields.Hom x) = HomHeld x
+Typed (fields.Brk x) = BrkHeld x
+Typed (fields.Pid x) = PidHeld x
 
 -- the numbers of the fields as they stand on the wire
 abbrev pub fieldNumbers : Fields → List ℕ

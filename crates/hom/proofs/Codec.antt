@@ -1,33 +1,35 @@
 -- Block hom's own maps, there and back (sheet, `Codec`). Assumes nothing.
 use mathlib.Core.Path.{_≡_, refl}
 use mathlib.Core.List.{List}
-use Prim.Native.Nat.{ℕ, _<_, _^_}
+use Prim.Native.Nat.{ℕ}
 use mir.Syntax.{w16, w32}
-use mir.Val.{SFits}
 use mir.ValLaws.{ofZ-fits, toZ-ofZ}
 use Rattle.wire.specs.Layout.{Room}
-use Rattle.wire.proofs.Laid.{room-listed}
+use Rattle.wire.proofs.Laid.{room-listed, room-at}
 use Rattle.sheet.specs.Sheet.{homRow}
 use Rattle.sheet.specs.Rows.{widths}
-use Rattle.sheet.proofs.Codec.{Codec, always, signed16, signed32}
+use Rattle.sheet.proofs.Codec.{Codec, always, signed16, signed32, held16, held32}
 use Rattle.hom.specs.declared.Hom.{Hom}
-use Rattle.hom.specs.Hom.{homOf, homNumbers}
-
--- what the types of its fields say of a block
-pub record HomHeld (b : Hom) : Type 0 where
-  pub fastHome : b .fastHome < 2 ^ 32
-  pub uFastHome : b .uFastHome < 2 ^ 8
-  pub slowHome : b .slowHome < 2 ^ 32
-  pub uSlowHome : b .uSlowHome < 2 ^ 8
-  pub homeDelta : SFits w32 (b .homeDelta)
-  pub uHomeDelta : SFits w16 (b .uHomeDelta)
-  pub homeFlags : b .homeFlags < 2 ^ 16
+use Rattle.hom.specs.Hom.{homOf, homNumbers, HomHeld}
 
 hom-back : (ns : List ℕ) → Room (widths homRow) ns → homNumbers (homOf ns) ≡ ns
 hom-back ns h = rw (signed32 (widths homRow) ns 4 refl h, signed16 (widths homRow) ns 5 refl h) (room-listed (widths homRow) ns h)
+
+hom-held : (ns : List ℕ) → Room (widths homRow) ns → HomHeld (homOf ns)
+hom-held ns h =
+    record {
+      fastHome = room-at (widths homRow) ns 0 h;
+      uFastHome = room-at (widths homRow) ns 1 h;
+      slowHome = room-at (widths homRow) ns 2 h;
+      uSlowHome = room-at (widths homRow) ns 3 h;
+      homeDelta = held32 (widths homRow) ns 4 refl h;
+      uHomeDelta = held16 (widths homRow) ns 5 refl h;
+      homeFlags = room-at (widths homRow) ns 6 h;
+    }
 
 pub hom-codec : Codec homRow Hom homOf homNumbers HomHeld
 hom-codec =
     always homRow Hom homOf homNumbers HomHeld hom-back
     (λ b h. (h .fastHome, (h .uFastHome, (h .slowHome, (h .uSlowHome, (ofZ-fits w32 (b .homeDelta) (h .homeDelta) .fits, (ofZ-fits w16 (b .uHomeDelta) (h .uHomeDelta) .fits, (h .homeFlags, tt))))))))
     (λ b h. rw (toZ-ofZ w32 (b .homeDelta) (h .homeDelta), toZ-ofZ w16 (b .uHomeDelta) (h .uHomeDelta)))
+    hom-held

@@ -1,6 +1,5 @@
 -- One whole unit, offered alone to a sound board with nothing unfinished: over `receive`'s own promise. Assumes nothing.
 use mathlib.Core.Path.{_≡_, refl, ap, _∙_}
-use mathlib.Core.Bool.{true}
 use mathlib.Core.List.{List, []}
 use Prim.Native.Nat.{ℕ, _≤_, _<_}
 use native.Mathlib.Omega.{arith}
@@ -22,7 +21,7 @@ use Rattle.unit.specs.Protocol.{protocol}
 use Rattle.unit.specs.declared.Memory.{Memory}
 use Rattle.unit.proofs.Replies.{act-order, act-most}
 use Rattle.state.specs.State.{stateOf, boardOf}
-use Rattle.state.specs.Sound.{soundBoard, refusalOf}
+use Rattle.state.specs.Sound.{refusalOf}
 use Rattle.state.specs.declared.Board.{Board}
 use Rattle.state.specs.declared.Call.{Call}
 use Rattle.state.proofs.Boards.{refusal-none}
@@ -30,11 +29,7 @@ use Rattle.receiver.specs.Receive.{answer}
 use Rattle.receiver.proofs.Calls.{accept-readied}
 use Rattle.demands.specs.Calls.{Answers}
 use Rattle.demands.proofs.Calls.{promise, written-is}
-
--- a board that can be asked: "a sound board with room enough and nothing unfinished"
-pub record Ready (b : Board) : Type 0 where
-  pub sound : soundBoard b ≡ true
-  pub idle : b .count ≡ 0
+use Rattle.link.specs.Asking.{Ready}
 
 -- a wait drops nothing where nothing is unfinished
 idle-ready : (m : Memory) (t later : ℕ) → ready protocol (stateAt m [] t) later ≡ stateAt m [] later
@@ -48,7 +43,7 @@ alone-accepted m t later room u wide some is =
     accept-readied (stateAt m [] t) later room u wide some ∙ ap (λ (s : State Memory). accept protocol s later room u) (idle-ready m t later)
     ∙ unit-alone protocol need-law m later room u is (omega (arith, act-most m u))
 
--- the unit u "is taken whole and accepted", and the call says what the unit does
+-- the unit u is accepted and taken whole, and the call says what the unit does
 pub record Taken (b : Board) (t : ℕ) (u : List ℕ) (r : Call) (after : List ℕ) : Type 0 where
   pub number : r .number ≡ 0
   pub taken : r .taken ≡ length u

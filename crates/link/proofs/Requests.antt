@@ -1,4 +1,5 @@
--- What the board does with the frame of a request, and what the reader makes of its reply: over the definitions. Assumes nothing.
+-- What the board does with the frame of a request, and what the reader makes of its reply: over the definitions.
+-- In quotation marks: sheet 02, P1. Assumes nothing.
 use mathlib.Core.Path.{_≡_, refl, sym, ap, _∙_}
 use mathlib.Core.Bool.{Bool, true, false, cond}
 use mathlib.Core.List.{List, [], _++_, append-nil}
@@ -30,9 +31,8 @@ use Rattle.unit.specs.Unit.{outOfRange, act, does}
 use Rattle.unit.specs.declared.Memory.{Memory}
 use Rattle.unit.proofs.Sets.{puts-refused}
 use Rattle.unit.proofs.Replies.{act-kind}
-use Rattle.unit.specs.Kept.{Accepts}
+use Rattle.unit.specs.Kept.{Accepts, getReply}
 use Rattle.unit.proofs.Kept.{accepted}
-use Rattle.unit.specs.Kept.{getReply}
 use Rattle.unit.proofs.Runs.{got}
 use Rattle.mov.specs.Mov.{movOf}
 use Rattle.eng.specs.Eng.{engOf}
@@ -48,10 +48,10 @@ use Rattle.host.specs.declared.Order.{Order as Asked}
 use Rattle.host.specs.declared.Order.the-variants.{Stop, Sstp, Pwof, Left, Rigt, Home, Loft}
 use Rattle.host.proofs.Numbered.{number-one, row-numbered, set-plain, get-plain, order-plain}
 use Rattle.host.proofs.Totals.{total-most, total-least}
-use Rattle.fields.specs.Fields.{blockOf, fieldNumbers, fieldsOf, sectionOf, firstBadOf}
+use Rattle.fields.specs.Fields.{blockOf, Typed, fieldNumbers, fieldsOf, sectionOf, firstBadOf}
 use Rattle.fields.specs.declared.Fields.{Fields}
 use Rattle.fields.specs.declared.Fields.the-variants as fields
-use Rattle.fields.proofs.Sections.{section-length, section-low, Typed, fields-back, numbers-back}
+use Rattle.fields.proofs.Sections.{section-length, section-low, fields-back, numbers-back}
 use Rattle.request.specs.Request.{setFrame, frameOf, badIn}
 use Rattle.request.specs.declared.Request.{Request}
 use Rattle.request.specs.declared.Request.the-variants.{Get, Set, Give}
@@ -60,12 +60,7 @@ use Rattle.answer.specs.Answer.{answerOf, firstAnswer}
 use Rattle.answer.specs.declared.Answer.the-variants.{Data}
 use Rattle.answer.proofs.Answers.{set-echoed, order-echoed, data-read}
 use Rattle.link.specs.Book.{Book, bookOf, noted, answerTo, givenBy, ordersBy, replyTo}
-
--- what the types of a request's fields say of it
-abbrev pub TypedIn : Request → Type 0
-TypedIn (Get b) = Unit {0}
-TypedIn (Set f) = Typed f
-TypedIn (Give o) = Unit {0}
+use Rattle.link.specs.Types.{TypedIn, TypedBook}
 
 -- ---- the board knows each name: later commands change none of these
 
@@ -150,7 +145,7 @@ cond-out : {X Y : Type 0} (f : X → Y) (b : Bool) (x y : X) → f (cond b x y) 
 cond-out f true x y = refl
 cond-out f false x y = refl
 
-store-fields : (s : Settings) (k : ℕ) (ns : List ℕ) (c : Block) → bookOf (storeAt s k ns) c ≡ cond (eqb k (blockNumber c)) (fieldsOf c ns) (bookOf s c)
+pub store-fields : (s : Settings) (k : ℕ) (ns : List ℕ) (c : Block) → bookOf (storeAt s k ns) c ≡ cond (eqb k (blockNumber c)) (fieldsOf c ns) (bookOf s c)
 store-fields s k ns Mov = cond-out fields.Mov (eqb k 1) (movOf ns) (s .mov)
 store-fields s k ns Eng = cond-out fields.Eng (eqb k 2) (engOf ns) (s .eng)
 store-fields s k ns Pwr = cond-out fields.Pwr (eqb k 3) (pwrOf ns) (s .pwr)
@@ -205,7 +200,7 @@ module _ (m : Memory) (f : Fields) (typed : Typed f) where
 
 -- ---- WHAT THE BOARD DOES WITH A REQUEST'S FRAME
 
--- "a set is echoed, a get answered with its data, an order echoed and given. No other block changes."
+-- it replies and orders as the book says; flags and last refused field stay, and each block is then as the book has it
 pub record Acts (m : Memory) (q : Request) : Type 0 where
   pub reply : act m (whole (frameOf q)) .reply ≡ replyTo (bookOf (m .settings)) q
   pub orders : act m (whole (frameOf q)) .orders ≡ ordersBy q
@@ -260,7 +255,7 @@ acts m (Give o) typed good =
 -- a book that a board can hold: each block's fields are that block's, and fit their types
 pub record Bound (book : Book) : Type 0 where
   pub own : (b : Block) → blockOf (book b) ≡ b
-  pub typed : (b : Block) → Typed (book b)
+  pub typed : TypedBook book
 
 pub settings-own : (s : Settings) (b : Block) → blockOf (bookOf s b) ≡ b
 settings-own s Mov = refl

@@ -4,53 +4,47 @@ use mathlib.Core.Path.{_≡_, refl, sym, ap, subst, _∙_}
 use mathlib.Core.List.{List, [], _∷_, _++_}
 use Prim.Native.Nat.{ℕ, zero, suc, _≤_}
 use native.Mathlib.Omega.{arith}
-use denote.Ref.{now}
 use lib.ListN.{length, take, drop, replicate}
 use lib.Seq.{sets, drop-append-seam}
 use borrow.Author.Tests.{eq-eqb, ne-eqb}
 use Rattle.wire.proofs.Stores.{front-stored}
 use Rattle.sheet.specs.Lengths.{longestFrame}
+use Rattle.settings.specs.Settings.{freshSettings}
+use Rattle.rule.specs.Facts.{OfBytes}
 use Rattle.names.specs.Names.{given}
 use Rattle.names.specs.declared.Order.{Order}
 use Rattle.unit.specs.Protocol.{protocol}
 use Rattle.state.specs.declared.Board.{Board}
 use Rattle.state.specs.declared.Call.{Call}
+use Rattle.state.proofs.Boards.{fresh-sound}
+use Rattle.state.proofs.fresh.Reads as fresh
 use Rattle.demands.specs.Calls.{Answers}
 use Rattle.demands.proofs.Calls.{refTo, receive-some, keeps-sound}
 use Rattle.host.specs.Names.{blockNumber}
 use Rattle.host.specs.declared.Block.{Block}
 use Rattle.host.proofs.Numbered.{number-one}
-use Rattle.fields.specs.Fields.{blockOf}
+use Rattle.fields.specs.Fields.{blockOf, Typed}
 use Rattle.fields.specs.declared.Fields.{Fields}
-use Rattle.fields.proofs.Sections.{Typed}
 use Rattle.request.specs.Request.{frameOf, badIn, writes, bufferAfter, Writes}
 use Rattle.request.specs.declared.Request.{Request}
 use Rattle.request.specs.declared.Request.the-variants.{Set}
 use Rattle.request.specs.declared.Written.{Written}
 use Rattle.request.specs.declared.Written.the-variants.{Frame}
 use Rattle.request.proofs.Writes.{says-frame, Framed, wrote-frame, writes-some}
-use Rattle.request.proofs.write.Reads as write
 use Rattle.answer.specs.Answer.{FirstRead, readAs, answerOf, firstAnswer}
-use Rattle.answer.specs.declared.Answer.{Answer}
 use Rattle.answer.specs.declared.Reading.{Reading}
 use Rattle.answer.proofs.Ways.{first-some}
-use Rattle.answer.proofs.read.Reads as read
-use Rattle.link.specs.Book.{Book, bookOf, noted, answerTo, answersTo, ordersBy, ordersOf, replyTo, repliesTo}
-use Rattle.link.proofs.Alone.{Ready, Taken, taken-alone}
-use Rattle.link.proofs.Requests.{TypedIn, frame-least, frame-most, frame-whole, Acts, acts, Bound, settings-own, noted-bound, reply-read}
+use Rattle.link.specs.Book.{Book, bookOf, noted, notedAll, answerTo, answersTo, ordersBy, ordersOf, replyTo, repliesTo}
+use Rattle.link.specs.Types.{TypedIn, TypedAll, TypedBook, TypedBoard}
+use Rattle.link.specs.Asking.{Writing, Reads, allowed, Ready, Asked, none, ask, NoRefusal, Sendable, ReadOff, one, AnswerForAnswer}
+use Rattle.link.proofs.Alone.{Taken, taken-alone}
+use Rattle.link.proofs.Requests.{frame-least, frame-most, frame-whole, Acts, acts, Bound, settings-own, noted-bound, reply-read}
+use Rattle.link.proofs.Types.{fresh-typed}
 
--- ---- what the contracts allow
-
--- THE CONTRACT OF WRITE allows the answer w to the request q, with the buffer `before` at entry and `after` at exit
-pub data Writing (q : Request) (before : List ℕ) (w : Written) (after : List ℕ) : Type 0 where
-  allowed : (κs : _) (a : _) (s : _) → write.Post κs a w s → a .0 ≡ q → now (a .1 .0) ≡ before → now (s .1 .0) ≡ after → Writing q before w after
+-- ---- what the contracts say
 
 wrote : {q : Request} {before after : List ℕ} {w : Written} → Writing q before w after → Writes (badIn q) (frameOf q) before w after
 wrote (allowed κs a s got e f g) = rw (← e, ← f, ← g) got
-
--- THE CONTRACT OF READ allows the answer r to these bytes
-pub data Reads (bytes : List ℕ) (r : Reading) : Type 0 where
-  allowed : (κs : _) (a : _) (s : _) → read.Post κs a r s → now (a .0) ≡ bytes → Reads bytes r
 
 has-read : {bytes : List ℕ} {r : Reading} → Reads bytes r → readAs r ≡ firstAnswer bytes
 has-read (allowed κs a s got e) = got ∙ ap firstAnswer e
@@ -64,6 +58,9 @@ module _ {q : Request} {n : ℕ} {room out : List ℕ} (written : Writing q room
   stands : Framed (badIn q) (frameOf q) (length room)
   stands = wrote-frame (badIn q) (frameOf q) (length room) number-zero
 
+  pub good-is : badIn q ≡ 0
+  good-is = stands .good
+
   pub length-is : n ≡ length (frameOf q)
   length-is = ap (λ w. w .size) (wrote written .answer) ∙ stands .long
 
@@ -74,6 +71,10 @@ module _ {q : Request} {n : ℕ} {room out : List ℕ} (written : Writing q room
 
 -- ---- ONE REQUEST
 
+-- the book of a board
+pub bound : (b : Board) → TypedBoard b → Bound (bookOf (b .memory .settings))
+bound b typed = record { own = settings-own (b .memory .settings); typed = typed .fields }
+
 -- "a written frame, offered whole to a sound board with room enough and nothing unfinished, is accepted"
 module _ {q : Request} {n : ℕ} {room out : List ℕ} (written : Writing q room (Frame n) out) (typed : TypedIn q)
     {b : Board} {t : ℕ} {before after : List ℕ} {r : Call} (got : Answers b t (take n out) before r after) (can : Ready b) (wide : protocol .leastRoom ≤ length before) where
@@ -81,7 +82,7 @@ module _ {q : Request} {n : ℕ} {room out : List ℕ} (written : Writing q room
   book = bookOf (b .memory .settings)
 
   done : Acts (b .memory) q
-  done = acts (b .memory) q typed (stands written .good)
+  done = acts (b .memory) q typed (good-is written)
 
   -- the board is offered the frame, alone
   one-unit : Taken b t (frameOf q) r after
@@ -92,11 +93,10 @@ module _ {q : Request} {n : ℕ} {room out : List ℕ} (written : Writing q room
   pub accepted : r .number ≡ 0
   accepted = one-unit .number
 
-  -- it "is taken whole"
   pub taken : r .taken ≡ n
   taken = one-unit .taken ∙ sym (length-is written)
 
-  -- "a set is echoed, a get answered with its data, an order echoed and given"
+  -- the reply and the order are the book's
   pub replied : take (r .written) after ≡ replyTo book q
   replied = one-unit .reply ∙ done .reply
 
@@ -107,6 +107,10 @@ module _ {q : Request} {n : ℕ} {room out : List ℕ} (written : Writing q room
   pub blocks : (c : Block) → bookOf (r .board .memory .settings) c ≡ noted book q c
   blocks c = ap (λ (y : Board). bookOf (y .memory .settings) c) (one-unit .board) ∙ done .blocks c
 
+  -- the book goes on
+  pub next-book : bookOf (r .board .memory .settings) ≡ noted book q
+  next-book = λ i c. blocks c i
+
   -- flags and last refused field stay, and the board can be asked again
   pub notes : r .board .memory .notes ≡ b .memory .notes
   notes = ap (λ (y : Board). y .memory .notes) (one-unit .board) ∙ done .notes
@@ -114,18 +118,22 @@ module _ {q : Request} {n : ℕ} {room out : List ℕ} (written : Writing q room
   pub ready-again : Ready (r .board)
   ready-again = record { sound = keeps-sound got (can .sound); idle = ap (λ (y : Board). y .count) (one-unit .board) }
 
+  -- its fields still fit their types
+  pub typed-again : TypedBoard b → TypedBoard (r .board)
+  typed-again fit =
+      record {
+        fields = subst TypedBook (sym next-book) (noted-bound book q (bound b fit) typed .typed);
+        bytes = subst (λ (n : ℕ). OfBytes (take n (r .board .held))) (sym (ready-again .idle)) (λ i. omega arith);
+      }
+
   -- "the host reader gives back what a get reply holds", and so each reply, whatever stands behind it
-  pub read-back : Bound book → (rest : List ℕ) {x : Reading} → Reads (take (r .written) after ++ rest) x
+  pub read-back : TypedBoard b → (rest : List ℕ) {x : Reading} → Reads (take (r .written) after ++ rest) x
       → readAs x ≡ answerOf (r .written) (answerTo book q)
-  read-back bound rest got-read =
-      has-read got-read ∙ ap (λ (u : List ℕ). firstAnswer (u ++ rest)) replied ∙ reply-read book q bound rest
+  read-back fit rest got-read =
+      has-read got-read ∙ ap (λ (u : List ℕ). firstAnswer (u ++ rest)) replied ∙ reply-read book q (bound b fit) rest
       ∙ ap (λ (k : ℕ). answerOf k (answerTo book q)) (sym (one-unit .written ∙ ap length (done .reply)))
 
-  -- the book goes on
-  pub next-book : bookOf (r .board .memory .settings) ≡ noted book q
-  next-book = λ i c. blocks c i
-
--- "the fields of its block are then those written", and "No other block changes"
+-- "the fields of its block are then those written", and no other block changes
 module _ {f : Fields} {n : ℕ} {room out : List ℕ} (written : Writing (Set f) room (Frame n) out) (typed : Typed f)
     {b : Board} {t : ℕ} {before after : List ℕ} {r : Call} (got : Answers b t (take n out) before r after) (can : Ready b) (wide : protocol .leastRoom ≤ length before) where
   pub then-written : bookOf (r .board .memory .settings) (blockOf f) ≡ f
@@ -138,41 +146,7 @@ module _ {f : Fields} {n : ℕ} {room out : List ℕ} (written : Writing (Set f)
 
 -- ---- ANY SEQUENCE OF REQUESTS
 
--- requests, "offered one after the other on an undamaged line": each is written into some buffer, and what was written is offered whole, at any
--- stamp, with any room that is enough; the replies joined, the orders, and the board at the end. Each answer is whatever its contract allows
-pub data Asked : Board → List Request → List ℕ → List Order → Board → Type 0 where
-  none : {b : Board} → Asked b [] [] [] b
-  ask : {b end : Board} {q : Request} {n t : ℕ} {room out before after : List ℕ} {r : Call} {qs : List Request} {reply : List ℕ} {orders : List Order}
-      → TypedIn q → Writing q room (Frame n) out → protocol .leastRoom ≤ length before → Answers b t (take n out) before r after
-      → Asked (r .board) qs reply orders end
-      → Asked b (q ∷ qs) (take (r .written) after ++ reply) (given (r .order) ++ orders) end
-
--- "with no refusal": each call answered 0 and took its frame whole
-abbrev pub NoRefusal : {b end : Board} {qs : List Request} {reply : List ℕ} {orders : List Order} → Asked b qs reply orders end → Type 0
-NoRefusal none = Unit {0}
-NoRefusal (ask {n = n} {r = r} typed written wide got rest) = ((r .number ≡ 0) × (r .taken ≡ n)) × NoRefusal rest
-
--- bytes read from their front, answer after answer, and what is left of them
-pub data ReadOff : List ℕ → List Reading → List ℕ → Type 0 where
-  none : {bytes : List ℕ} → ReadOff bytes [] bytes
-  one : {bytes rest : List ℕ} {x : Reading} {xs : List Reading} → Reads bytes x → ReadOff (drop (readAs x .size) bytes) xs rest → ReadOff bytes (x ∷ xs) rest
-
--- the readings are these answers, one for one, "in sequence", "with no refusal"
-abbrev pub AnswerForAnswer : List Reading → List Answer → Type 0
-AnswerForAnswer [] [] = Unit {0}
-AnswerForAnswer [] (a ∷ rest) = ⊥
-AnswerForAnswer (x ∷ xs) [] = ⊥
-AnswerForAnswer (x ∷ xs) (a ∷ rest) = ((readAs x .number ≡ 0) × (readAs x .answer ≡ a ∷ [])) × AnswerForAnswer xs rest
-
--- what the types of the fields say: of the settings of a board, and of requests
-abbrev pub TypedBoard : Board → Type 0
-TypedBoard b = (c : Block) → Typed (bookOf (b .memory .settings) c)
-
-abbrev pub TypedAll : List Request → Type 0
-TypedAll [] = Unit {0}
-TypedAll (q ∷ qs) = TypedIn q × TypedAll qs
-
--- the book's replies, joined, are read back: answer for answer, "to the last byte"
+-- the book's replies, joined, are read back, answer for answer, to the last byte
 pub replies-read : (book : Book) (qs : List Request) → Bound book → TypedAll qs → {xs : List Reading} {rest : List ℕ} → ReadOff (repliesTo book qs) xs rest
     → length xs ≡ length qs → AnswerForAnswer xs (answersTo book qs) × (rest ≡ [])
 replies-read book [] bound typed none e = (tt, refl)
@@ -210,13 +184,53 @@ asked-typed : {b end : Board} {qs : List Request} {reply : List ℕ} {orders : L
 asked-typed none = tt
 asked-typed (ask typed written wide got rest) = (typed, asked-typed rest)
 
--- "replies that the reader reads back answer for answer, in sequence, to the last byte, with no refusal; a requested block's answer holds the last
--- accepted set's fields": read off as often as was asked, the joined replies are the book's answers, and nothing is left
+-- each block then holds what the requests leave in it, noted in sequence
+pub asked-blocks : {b end : Board} {qs : List Request} {reply : List ℕ} {orders : List Order} → Asked b qs reply orders end → Ready b
+    → (c : Block) → bookOf (end .memory .settings) c ≡ notedAll (bookOf (b .memory .settings)) qs c
+asked-blocks none can c = refl
+asked-blocks (ask {qs = qs} typed written wide got rest) can c =
+    asked-blocks rest (ready-again written typed got can wide) c ∙ ap (λ (k : Book). notedAll k qs c) (next-book written typed got can wide)
+
+-- flags and last refused field stay, the board can be asked again, and its fields still fit their types
+pub asked-notes : {b end : Board} {qs : List Request} {reply : List ℕ} {orders : List Order} → Asked b qs reply orders end → Ready b
+    → end .memory .notes ≡ b .memory .notes
+asked-notes none can = refl
+asked-notes (ask typed written wide got rest) can = asked-notes rest (ready-again written typed got can wide) ∙ notes written typed got can wide
+
+pub asked-ready : {b end : Board} {qs : List Request} {reply : List ℕ} {orders : List Order} → Asked b qs reply orders end → Ready b → Ready end
+asked-ready none can = can
+asked-ready (ask typed written wide got rest) can = asked-ready rest (ready-again written typed got can wide)
+
+pub asked-typed-again : {b end : Board} {qs : List Request} {reply : List ℕ} {orders : List Order} → Asked b qs reply orders end → Ready b
+    → TypedBoard b → TypedBoard end
+asked-typed-again none can fit = fit
+asked-typed-again (ask typed written wide got rest) can fit =
+    asked-typed-again rest (ready-again written typed got can wide) (typed-again written typed got can wide fit)
+
+-- "the host reader gives back what a get reply holds", of any sequence: read off as often as was asked, the joined replies are the book's answers, one
+-- for one, and nothing is left
 pub asked-read : {b end : Board} {qs : List Request} {reply rest : List ℕ} {orders : List Order} {xs : List Reading} → Asked b qs reply orders end
     → Ready b → TypedBoard b → ReadOff reply xs rest → length xs ≡ length qs → AnswerForAnswer xs (answersTo (bookOf (b .memory .settings)) qs) × (rest ≡ [])
 asked-read {b = b} {qs = qs} {rest = rest} {xs = xs} asked can typed off e =
-    replies-read (bookOf (b .memory .settings)) qs (record { own = settings-own (b .memory .settings); typed = typed }) (asked-typed asked)
+    replies-read (bookOf (b .memory .settings)) qs (bound b typed) (asked-typed asked)
     (subst (λ (l : List ℕ). ReadOff l xs rest) (asked-replies asked can) off) e
+
+-- ---- FROM A FRESH BOARD, as `state::fresh` promises it: nothing is asked of the board
+
+module _ (κs : _) (a : _) (b : Board) (s : _) (is : fresh.Post κs a b s) where
+  pub fresh-ready : Ready b
+  fresh-ready = record { sound = fresh-sound κs a b s is; idle = ap (λ (y : Board). y .count) is }
+
+  pub fresh-asked-blocks : {end : Board} {qs : List Request} {reply : List ℕ} {orders : List Order} → Asked b qs reply orders end
+      → (c : Block) → bookOf (end .memory .settings) c ≡ notedAll (bookOf freshSettings) qs c
+  fresh-asked-blocks {qs = qs} asked c =
+      asked-blocks asked fresh-ready c ∙ ap (λ (y : Board). notedAll (bookOf (y .memory .settings)) qs c) is
+
+  pub fresh-asked-read : {end : Board} {qs : List Request} {reply rest : List ℕ} {orders : List Order} {xs : List Reading} → Asked b qs reply orders end
+      → ReadOff reply xs rest → length xs ≡ length qs → AnswerForAnswer xs (answersTo (bookOf freshSettings) qs) × (rest ≡ [])
+  fresh-asked-read {qs = qs} {rest = rest} {xs = xs} asked off e =
+      subst (λ (y : Board). AnswerForAnswer xs (answersTo (bookOf (y .memory .settings)) qs) × (rest ≡ [])) is
+      (asked-read asked fresh-ready (fresh-typed κs a b s is) off e)
 
 -- ---- every request, every slice and every sequence gets its answers
 
@@ -235,11 +249,6 @@ readable (suc n) bytes =
     let x = read-some bytes in
     let more = readable n (drop (readAs (x .0) .size) bytes) in
     (x .0 ∷ more .0, more .1, ap suc (more .2), one (x .1) (more .3))
-
--- requests that no field keeps from being sent
-abbrev pub Sendable : List Request → Type 0
-Sendable [] = Unit {0}
-Sendable (q ∷ qs) = (TypedIn q × (badIn q ≡ 0)) × Sendable qs
 
 -- a request that passes its test is written where it fits
 pub write-good : (q : Request) (room : List ℕ) → badIn q ≡ 0 → length (frameOf q) ≤ length room → (out : List ℕ) × Writing q room (Frame (length (frameOf q))) out

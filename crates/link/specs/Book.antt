@@ -1,4 +1,5 @@
 -- What the optimiser can rely on, in the host's words alone: a book of what each block holds, kept from the requests that it wrote.
+-- In quotation marks: sheet 01, or 02, P1 where it is named.
 use mathlib.Core.Bool.{cond}
 use mathlib.Core.List.{List, [], _∷_, _++_}
 use Prim.Native.Nat.{ℕ}
@@ -32,24 +33,29 @@ blocksOf s = record { mov = s .mov; eng = s .eng; pwr = s .pwr; eds = s .eds; ho
 abbrev pub bookOf : Settings → Book
 bookOf s = fieldsAt (blocksOf s)
 
--- a set is noted in its block's place; nothing else changes the book
+-- a set is noted in its block's place; nothing else changes the book. 02, P1: "the fields of its block are then those written"
 abbrev pub noted : Book → Request → Book
 noted book (Get b) c = book c
 noted book (Set f) c = cond (eqb (blockNumber (blockOf f)) (blockNumber c)) f (book c)
 noted book (Give o) c = book c
 
--- "a set is echoed, a get answered with its data, an order echoed"
+-- the book after requests one after the other
+abbrev pub notedAll : Book → List Request → Book
+notedAll book [] = book
+notedAll book (q ∷ qs) = notedAll (noted book q) qs
+
+-- a get brings the block's fields; of a set "the set name is the reply", of an order "the identifier"
 abbrev pub answerTo : Book → Request → Answer
 answerTo book (Get b) = Data (book b)
 answerTo book (Set f) = SetEcho (blockOf f)
 answerTo book (Give o) = OrderEcho o
 
--- the answers to requests one after the other: "a requested block's answer holds the last accepted set's fields"
+-- the answers to requests one after the other: a get's holds the fields of the last set of its block
 abbrev pub answersTo : Book → List Request → List Answer
 answersTo book [] = []
 answersTo book (q ∷ qs) = answerTo book q ∷ answersTo (noted book q) qs
 
--- the order that the board gives for the host's
+-- "give the order": the board's, for the host's
 abbrev pub givenBy : Asked → Order
 givenBy asked.Stop = Stop
 givenBy asked.Sstp = Sstp
@@ -69,7 +75,7 @@ abbrev pub ordersOf : List Request → List Order
 ordersOf [] = []
 ordersOf (q ∷ qs) = ordersBy q ++ ordersOf qs
 
--- the bytes of the answer: 01's reply
+-- the bytes of the answer: "reply the get name, data, CRC"; "the set name is the reply"; "reply the identifier"
 abbrev pub replyTo : Book → Request → List ℕ
 replyTo book (Get b) = framed (getOf b .name) (sectionOf (book b))
 replyTo book (Set f) = leBytes 4 (setOf (blockOf f) .name)

@@ -1,1 +1,4 @@
 pub mod Book
+pub mod Types
+pub mod Asking
+pub mod Sending

@@ -1,24 +1,29 @@
 -- Block mov's own maps, there and back (sheet, `Codec`). Assumes nothing.
 use mathlib.Core.Path.{refl}
-use Prim.Native.Nat.{_<_, _^_}
-use Rattle.wire.proofs.Laid.{room-listed}
+use mathlib.Core.List.{List}
+use Prim.Native.Nat.{ℕ}
+use Rattle.wire.specs.Layout.{Room}
+use Rattle.wire.proofs.Laid.{room-listed, room-at}
 use Rattle.sheet.specs.Sheet.{movRow}
 use Rattle.sheet.specs.Rows.{widths}
 use Rattle.sheet.proofs.Codec.{Codec, always}
 use Rattle.mov.specs.declared.Mov.{Mov}
-use Rattle.mov.specs.Mov.{movOf, movNumbers}
+use Rattle.mov.specs.Mov.{movOf, movNumbers, MovHeld}
 
--- what the types of its fields say of a block
-pub record MovHeld (b : Mov) : Type 0 where
-  pub speed : b .speed < 2 ^ 32
-  pub uSpeed : b .uSpeed < 2 ^ 8
-  pub accel : b .accel < 2 ^ 16
-  pub decel : b .decel < 2 ^ 16
-  pub antiplaySpeed : b .antiplaySpeed < 2 ^ 32
-  pub uAntiplaySpeed : b .uAntiplaySpeed < 2 ^ 8
+mov-held : (ns : List ℕ) → Room (widths movRow) ns → MovHeld (movOf ns)
+mov-held ns h =
+    record {
+      speed = room-at (widths movRow) ns 0 h;
+      uSpeed = room-at (widths movRow) ns 1 h;
+      accel = room-at (widths movRow) ns 2 h;
+      decel = room-at (widths movRow) ns 3 h;
+      antiplaySpeed = room-at (widths movRow) ns 4 h;
+      uAntiplaySpeed = room-at (widths movRow) ns 5 h;
+    }
 
 pub mov-codec : Codec movRow Mov movOf movNumbers MovHeld
 mov-codec =
     always movRow Mov movOf movNumbers MovHeld (room-listed (widths movRow))
     (λ b h. (h .speed, (h .uSpeed, (h .accel, (h .decel, (h .antiplaySpeed, (h .uAntiplaySpeed, tt)))))))
     (λ b h. refl)
+    mov-held

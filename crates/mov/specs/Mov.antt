@@ -1,6 +1,6 @@
--- Block 1, mov: the record that numbers stand for, and a record's numbers.
+-- Block 1, mov: the record that numbers stand for, a record's numbers, and what its fields' types say.
 use mathlib.Core.List.{List, [], _∷_}
-use Prim.Native.Nat.{ℕ}
+use Prim.Native.Nat.{ℕ, _^_, _<_}
 use lib.ListN.{getD}
 use Rattle.mov.specs.declared.Mov.{Mov}
 
@@ -17,3 +17,12 @@ movOf ns =
 
 abbrev pub movNumbers : Mov → List ℕ
 movNumbers b = b .speed ∷ b .uSpeed ∷ b .accel ∷ b .decel ∷ b .antiplaySpeed ∷ b .uAntiplaySpeed ∷ []
+
+-- what the types of its fields say of a block
+pub record MovHeld (b : Mov) : Type 0 where
+  pub speed : b .speed < 2 ^ 32
+  pub uSpeed : b .uSpeed < 2 ^ 8
+  pub accel : b .accel < 2 ^ 16
+  pub decel : b .decel < 2 ^ 16
+  pub antiplaySpeed : b .antiplaySpeed < 2 ^ 32
+  pub uAntiplaySpeed : b .uAntiplaySpeed < 2 ^ 8

@@ -1,11 +1,11 @@
 -- Block pid's own maps, there and back (sheet, `Codec`). Assumes nothing.
 use mathlib.Core.Path.{_≡_}
 use mathlib.Core.List.{List}
-use Prim.Native.Nat.{ℕ, _<_, _^_}
-use lib.Dec.{T, lit<}
+use Prim.Native.Nat.{ℕ}
+use lib.Dec.{lit<}
 use lib.ListN.{getD}
-use lib.Ieee.{binary32, fits}
-use lib.Ieee.Bits.{ofBits-toBits, toBits-lt}
+use lib.Ieee.{binary32}
+use lib.Ieee.Bits.{ofBits-toBits, ofBits-fits, toBits-lt}
 use Rattle.wire.specs.Layout.{Room}
 use Rattle.wire.proofs.Laid.{room-listed, room-at}
 use Rattle.ranges.proofs.Tests.{all-of}
@@ -14,16 +14,7 @@ use Rattle.sheet.specs.Sheet.{pidRow}
 use Rattle.sheet.specs.Rows.{widths, firstBad, verdicts}
 use Rattle.sheet.proofs.Codec.{Codec}
 use Rattle.pid.specs.declared.Pid.{Pid}
-use Rattle.pid.specs.Pid.{pidOf, pidNumbers}
-
--- what the types of its fields say of a block
-pub record PidHeld (b : Pid) : Type 0 where
-  pub kpU : b .kpU < 2 ^ 16
-  pub kiU : b .kiU < 2 ^ 16
-  pub kdU : b .kdU < 2 ^ 16
-  pub kpf : T (fits binary32 (b .kpf))
-  pub kif : T (fits binary32 (b .kif))
-  pub kdf : T (fits binary32 (b .kdf))
+use Rattle.pid.specs.Pid.{pidOf, pidNumbers, PidHeld}
 
 pid-back : (ns : List ℕ) → Room (widths pidRow) ns → firstBad pidRow ns ≡ 0 → pidNumbers (pidOf ns) ≡ ns
 pid-back ns h e =
@@ -35,6 +26,17 @@ pid-judged : (ns : List ℕ) → Room (widths pidRow) ns → firstBad pidRow (pi
 pid-judged ns h =
     rw (bits-judged (getD ns 3 0) (room-at (widths pidRow) ns 3 h), bits-judged (getD ns 4 0) (room-at (widths pidRow) ns 4 h), bits-judged (getD ns 5 0) (room-at (widths pidRow) ns 5 h))
 
+pid-held : (ns : List ℕ) → Room (widths pidRow) ns → PidHeld (pidOf ns)
+pid-held ns h =
+    record {
+      kpU = room-at (widths pidRow) ns 0 h;
+      kiU = room-at (widths pidRow) ns 1 h;
+      kdU = room-at (widths pidRow) ns 2 h;
+      kpf = ofBits-fits binary32 (getD ns 3 0);
+      kif = ofBits-fits binary32 (getD ns 4 0);
+      kdf = ofBits-fits binary32 (getD ns 5 0);
+    }
+
 pub pid-codec : Codec pidRow Pid pidOf pidNumbers PidHeld
 pid-codec =
     record {
@@ -42,4 +44,5 @@ pid-codec =
       judged = pid-judged;
       room = λ b h. (h .kpU, (h .kiU, (h .kdU, (toBits-lt binary32 (b .kpf) (h .kpf), (toBits-lt binary32 (b .kif) (h .kif), (toBits-lt binary32 (b .kdf) (h .kdf), tt))))));
       forth = λ b h. rw (ofBits-toBits binary32 (b .kpf) (h .kpf), ofBits-toBits binary32 (b .kif) (h .kif), ofBits-toBits binary32 (b .kdf) (h .kdf));
+      held = pid-held;
     }

@@ -1,6 +1,6 @@
--- Block 3, pwr: the record that numbers stand for, and a record's numbers.
+-- Block 3, pwr: the record that numbers stand for, a record's numbers, and what its fields' types say.
 use mathlib.Core.List.{List, [], _∷_}
-use Prim.Native.Nat.{ℕ}
+use Prim.Native.Nat.{ℕ, _^_, _<_}
 use lib.ListN.{getD}
 use Rattle.pwr.specs.declared.Pwr.{Pwr}
 
@@ -16,3 +16,11 @@ pwrOf ns =
 
 abbrev pub pwrNumbers : Pwr → List ℕ
 pwrNumbers b = b .holdCurrent ∷ b .currReductDelay ∷ b .powerOffDelay ∷ b .currentSetTime ∷ b .powerFlags ∷ []
+
+-- what the types of its fields say of a block
+pub record PwrHeld (b : Pwr) : Type 0 where
+  pub holdCurrent : b .holdCurrent < 2 ^ 8
+  pub currReductDelay : b .currReductDelay < 2 ^ 16
+  pub powerOffDelay : b .powerOffDelay < 2 ^ 16
+  pub currentSetTime : b .currentSetTime < 2 ^ 16
+  pub powerFlags : b .powerFlags < 2 ^ 8

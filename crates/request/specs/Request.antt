@@ -18,7 +18,7 @@ use Rattle.request.specs.declared.Written.the-variants.{Frame, OutOfRang
 
 -- ---- frames
 
--- 01: "A set carries data and a 2-byte CRC"; "The writer sends reserved zeros" (sheet, `dataOf`)
+-- 01: "A set carries data and a 2-byte CRC"; 02: "The writer sends reserved zeros" (sheet, `dataOf`)
 abbrev pub setFrame : Fields → List ℕ
 setFrame f = framed (setOf (blockOf f) .name) (sectionOf f)
 

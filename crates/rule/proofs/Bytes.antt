@@ -3,7 +3,7 @@ use Prim.Native.Nat.{ℕ, _+_}
 use mathlib.Core.Path.{_≡_, refl, ap, sym, _∙_}
 use mathlib.Core.Bool.{Bool}
 use mathlib.Core.List.{List, [], _∷_, _++_, append-assoc, append-nil}
-use Rattle.rule.specs.Run.{Item, byte, event, bytes, late}
+use Rattle.rule.specs.Run.{Item, byte, event, bytes, at, late}
 use Rattle.rule.specs.Framing.{Needs, Token, whole, lost, seen, unitsOf}
 use Rattle.rule.specs.Rule.{Line}
 use Rattle.rule.specs.Step.{Fed, cutOf, settle, feedOn, feed, feeds}
@@ -18,9 +18,14 @@ module _ {E : Type 0} where
   spent-append (lost u ∷ ks) ls = rw (spent-append ks ls, append-assoc)
   spent-append (seen e ∷ ks) ls = spent-append ks ls
 
-  bytes-cons : (x : Item E) (r : List (Item E)) → bytes (x ∷ r) ≡ bytes (x ∷ []) ++ bytes r
-  bytes-cons (byte t b) r = refl
-  bytes-cons (event e) r = refl
+  pub bytes-append : (q r : List (Item E)) → bytes (q ++ r) ≡ bytes q ++ bytes r
+  bytes-append [] r = refl
+  bytes-append (byte t b ∷ q) r = ap (λ (u : List ℕ). b ∷ u) (bytes-append q r)
+  bytes-append (event e ∷ q) r = bytes-append q r
+
+pub bytes-at : (E : Type 0) (t : ℕ) (u : List ℕ) → bytes {E = E} (at t u) ≡ u
+bytes-at E t [] = refl
+bytes-at E t (b ∷ u) = ap (λ (w : List ℕ). b ∷ w) (bytes-at E t u)
 
 module _ {E : Type 0} (cuts : ℕ → E → Bool) (need : List ℕ → ℕ) where
   settle-held : (u : List ℕ) (t : ℕ) → allBytes (cutOf (settle cuts need u t)) ≡ u
@@ -43,7 +48,7 @@ module _ {E : Type 0} (cuts : ℕ → E → Bool) (need : List ℕ → ℕ) wher
   feeds-held (x ∷ r) l =
       let f = feed cuts need l x in
       let g = feeds cuts need (f .line) r in
-      rw (spent-append (f .tokens) (g .tokens), append-assoc (spent (f .tokens)) (spent (g .tokens)) (g .line .unfinished), feeds-held r (f .line), bytes-cons x r)
+      rw (spent-append (f .tokens) (g .tokens), append-assoc (spent (f .tokens)) (spent (g .tokens)) (g .line .unfinished), feeds-held r (f .line), bytes-append (x ∷ []) r)
       (sym (append-assoc (spent (f .tokens)) (f .line .unfinished) (bytes r))
       ∙ ap (λ (w : List ℕ). w ++ bytes r) (feed-held (l .unfinished) (l .last) x) ∙ append-assoc (l .unfinished) (bytes (x ∷ [])) (bytes r))
 

@@ -12,6 +12,7 @@ pub mod Progress
 pub mod First
 pub mod Bytes
 pub mod Whole
+pub mod OfBytes
 pub mod Largest
 pub mod Numbered
 pub mod Spread

@@ -3,12 +3,16 @@ use Prim.Native.Nat.{ℕ, _-_, _<_, _≤_}
 use mathlib.Core.Path.{_≡_}
 use mathlib.Core.Bool.{false}
 use mathlib.Core.List.{List, [], _∷_, _++_}
-use lib.ListN.{length, take, drop}
+use lib.ListN.{length, getD, take, drop}
 use Rattle.rule.specs.Run.{Item, byte, at, late}
 use Rattle.rule.specs.Framing.{Token, whole, lost, seen, Front, ends, drops, stays, Cut}
 use Rattle.rule.specs.Rule.{Said, State, Protocol}
 use Rattle.rule.specs.Step.{step, steps}
 use Rattle.rule.specs.Calls.{Called}
+
+-- each of these numbers is a byte
+abbrev pub OfBytes : List ℕ → Type 0
+OfBytes u = (i : ℕ) → getD u i 0 < 256
 
 -- stamps behind t, none "more than 400 ms" after the one before it
 abbrev pub InTime : ℕ → List ℕ → Type 0
@@ -22,6 +26,12 @@ module _ {E : Type 0} where
   spent (whole u ∷ ks) = u ++ spent ks
   spent (lost u ∷ ks) = u ++ spent ks
   spent (seen e ∷ ks) = spent ks
+
+  -- the bytes in one token are bytes
+  abbrev pub TokenOfBytes : Token E → Type 0
+  TokenOfBytes (whole u) = OfBytes u
+  TokenOfBytes (lost u) = OfBytes u
+  TokenOfBytes (seen e) = Unit {0}
 
   -- all the bytes of a cut
   abbrev pub allBytes : Cut E → List ℕ

@@ -3,8 +3,8 @@ use mathlib.Core.Path.{_≡_, sym, ap, _∙_, subst}
 use mathlib.Core.List.{List, _++_}
 use Prim.Native.Nat.{ℕ, _≤_, _<_, _^_}
 use mir.Syntax.{w16, w32}
-use mir.Val.{toZ, ofZ}
-use mir.ValLaws.{ofZ-toZ}
+use mir.Val.{Fits, SFits, toZ, ofZ}
+use mir.ValLaws.{ofZ-toZ, toZ-fits}
 use Rattle.wire.proofs.Laid.{room-at}
 use lib.ListN.{length, getD}
 use Rattle.wire.specs.Layout.{sum, Room}
@@ -21,6 +21,8 @@ pub record Codec (r : Row) (X : Type 0) (of : List ℕ → X) (to : X → List �
   -- the block comes back
   pub room : (x : X) → Held x → Room (widths r) (to x)
   pub forth : (x : X) → Held x → of (to x) ≡ x
+  -- a block made of numbers that have room fits its types
+  pub held : (ns : List ℕ) → Room (widths r) ns → Held (of ns)
 
 module _ (r : Row) (X : Type 0) (of : List ℕ → X) (to : X → List ℕ) (Held : X → Type 0) (c : Codec r X of to Held) where
   -- what is encoded is decoded again, whatever stands behind it
@@ -38,12 +40,29 @@ pub always : (r : Row) (X : Type 0) (of : List ℕ → X) (to : X → List ℕ) 
     → ((ns : List ℕ) → Room (widths r) ns → to (of ns) ≡ ns)
     → ((x : X) → Held x → Room (widths r) (to x))
     → ((x : X) → Held x → of (to x) ≡ x)
+    → ((ns : List ℕ) → Room (widths r) ns → Held (of ns))
     → Codec r X of to Held
-always r X of to Held b m f = record { back = λ ns h _. b ns h; judged = λ ns h. ap (firstBad r) (b ns h); room = m; forth = f }
+always r X of to Held b m f k = record { back = λ ns h _. b ns h; judged = λ ns h. ap (firstBad r) (b ns h); room = m; forth = f; held = k }
 
--- a number of a signed field comes back
-pub signed16 : (ws ns : List ℕ) (k : ℕ) → getD ws k 0 ≡ 2 → Room ws ns → ofZ w16 (toZ w16 (getD ns k 0)) ≡ getD ns k 0
-signed16 ws ns k e h = ofZ-toZ w16 (getD ns k 0) (record { fits = subst (λ (w : ℕ). getD ns k 0 < 256 ^ w) e (room-at ws ns k h) })
+-- ---- signed fields
 
-pub signed32 : (ws ns : List ℕ) (k : ℕ) → getD ws k 0 ≡ 4 → Room ws ns → ofZ w32 (toZ w32 (getD ns k 0)) ≡ getD ns k 0
-signed32 ws ns k e h = ofZ-toZ w32 (getD ns k 0) (record { fits = subst (λ (w : ℕ). getD ns k 0 < 256 ^ w) e (room-at ws ns k h) })
+module _ (ws ns : List ℕ) (k : ℕ) where
+  fits16 : getD ws k 0 ≡ 2 → Room ws ns → Fits w16 (getD ns k 0)
+  fits16 e h = record { fits = subst (λ (w : ℕ). getD ns k 0 < 256 ^ w) e (room-at ws ns k h) }
+
+  fits32 : getD ws k 0 ≡ 4 → Room ws ns → Fits w32 (getD ns k 0)
+  fits32 e h = record { fits = subst (λ (w : ℕ). getD ns k 0 < 256 ^ w) e (room-at ws ns k h) }
+
+  -- the number comes back
+  pub signed16 : getD ws k 0 ≡ 2 → Room ws ns → ofZ w16 (toZ w16 (getD ns k 0)) ≡ getD ns k 0
+  signed16 e h = ofZ-toZ w16 (getD ns k 0) (fits16 e h)
+
+  pub signed32 : getD ws k 0 ≡ 4 → Room ws ns → ofZ w32 (toZ w32 (getD ns k 0)) ≡ getD ns k 0
+  signed32 e h = ofZ-toZ w32 (getD ns k 0) (fits32 e h)
+
+  -- and what it stands for fits its type
+  pub held16 : getD ws k 0 ≡ 2 → Room ws ns → SFits w16 (toZ w16 (getD ns k 0))
+  held16 e h = toZ-fits w16 (getD ns k 0) (fits16 e h)
+
+  pub held32 : getD ws k 0 ≡ 4 → Room ws ns → SFits w32 (toZ w32 (getD ns k 0))
+  held32 e h = toZ-fits w32 (getD ns k 0) (fits32 e h)
