@@ -43,10 +43,10 @@ use Rattle.link.proofs.Types.{fresh-typed}
 
 -- ---- what the contracts say
 
-wrote : {q : Request} {before after : List ℕ} {w : Written} → Writing q before w after → Writes (badIn q) (frameOf q) before w after
+pub wrote : {q : Request} {before after : List ℕ} {w : Written} → Writing q before w after → Writes (badIn q) (frameOf q) before w after
 wrote (allowed κs a s got e f g) = rw (← e, ← f, ← g) got
 
-has-read : {bytes : List ℕ} {r : Reading} → Reads bytes r → readAs r ≡ firstAnswer bytes
+pub has-read : {bytes : List ℕ} {r : Reading} → Reads bytes r → readAs r ≡ firstAnswer bytes
 has-read (allowed κs a s got e) = got ∙ ap firstAnswer e
 
 -- ---- a written request: the frame of n bytes stands at the buffer's front, and the board would refuse no field of it

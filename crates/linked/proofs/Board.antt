@@ -61,7 +61,7 @@ module _ {b : Board} {time : ℕ} {r : Report} where
 
 -- ---- a run
 
-given-numbers : (o : Order) → map orderNumber (given o) ≡ cond (eqb (orderNumber o) 0) [] (orderNumber o ∷ [])
+pub given-numbers : (o : Order) → map orderNumber (given o) ≡ cond (eqb (orderNumber o) 0) [] (orderNumber o ∷ [])
 given-numbers o = by (eqb (orderNumber o) 0)
   where
     by : (y : Bool) → map orderNumber (cond y [] (o ∷ [])) ≡ cond y [] (orderNumber o ∷ [])
