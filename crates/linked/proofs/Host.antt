@@ -3,11 +3,10 @@ use Prim.Native.Nat.{ℕ, _≤_}
 use mathlib.Core.Path.{_≡_, refl, ap, sym, subst, _∙_}
 use mathlib.Core.List.{List, [], _∷_, _++_, map, map-append}
 use native.Mathlib.Omega.{arith}
-use lib.ListN.{length, take, drop}
+use lib.ListN.{length, take, drop, length-map}
 use Rattle.settings.specs.Settings.{freshSettings}
 use Rattle.names.specs.Names.{orderNumber, given}
 use Rattle.names.specs.declared.Order.{Order}
-use Rattle.unit.specs.Protocol.{protocol}
 use Rattle.state.specs.declared.Board.{Board}
 use Rattle.state.specs.declared.Call.{Call}
 use Rattle.demands.specs.Calls.{Answers}
@@ -16,34 +15,31 @@ use Rattle.board.specs.Answer.{flat}
 use Rattle.board.specs.declared.Answer.{Answer as FlatCall}
 use Rattle.host.specs.Names.{blockNumber, blockAt, orderAt}
 use Rattle.host.specs.Names as host
-use Rattle.host.specs.declared.Block.{Block}
-use Rattle.host.specs.declared.FoundBlock.{FoundBlock}
-use Rattle.host.specs.declared.FoundOrder.{FoundOrder}
 use Rattle.host.proofs.Numbered.{block-back, order-back}
 use Rattle.fields.specs.Fields.{blockOf}
 use Rattle.fields.specs.declared.Fields.{Fields}
 use Rattle.fields.specs.declared.Fields.the-variants.{Mov, Eng, Pwr, Eds, Hom, Brk, Pid}
 use Rattle.blocks.specs.Blocks.{fieldsAt, blocksWith}
 use Rattle.blocks.specs.declared.Blocks.{Blocks}
-use Rattle.request.specs.Request.{badIn, frameOf, writtenAs, bufferAfter, Writes}
+use Rattle.request.specs.Request.{writtenAs}
 use Rattle.request.specs.declared.Request.{Request}
 use Rattle.request.specs.declared.Request.the-variants.{Get, Set, Give}
 use Rattle.request.specs.declared.Written.{Written}
 use Rattle.request.specs.declared.Written.the-variants.{Frame, OutOfRange, TooShort}
-use Rattle.answer.specs.Answer.{readAs, answerOf, firstAnswer}
+use Rattle.answer.specs.Answer.{readAs, firstAnswer}
 use Rattle.answer.specs.declared.Answer.{Answer}
 use Rattle.answer.specs.declared.Reading.{Reading}
 use Rattle.optimiser.specs.Flat.{getAsked, setAsked, orderAsked, flatWritten, nobody, FlatWrites, flatRead, answerKind, whatOf, dataBlocks}
 use Rattle.optimiser.specs.declared.FlatWritten.{FlatWritten}
 use Rattle.optimiser.specs.declared.FlatAnswer.{FlatAnswer}
 use Rattle.optimiser.proofs.Flats as flats
-use Rattle.link.specs.Book.{bookOf, notedAll, answersTo, ordersOf}
+use Rattle.link.specs.Book.{bookOf, answersTo}
 use Rattle.link.specs.Types.{TypedBoard}
 use Rattle.link.specs.Asking as link
 use Rattle.link.specs.Asking.{Writing, Reads, Ready, Sendable}
 use Rattle.link.proofs.Sessions.{wrote, has-read, write-some, read-some, asked-accepted, asked-orders, asked-read, asked-blocks, asked-notes, asked-ready, asked-typed-again, fresh-ready, askable, readable}
 use Rattle.link.proofs.Types.{fresh-typed}
-use Rattle.linked.specs.Board.{Starts, Receives, saidBy}
+use Rattle.linked.specs.Board.{Starts, saidBy}
 use Rattle.linked.specs.Board as board
 use Rattle.linked.specs.Host.{WritesGet, WritesSet, WritesOrder, ReadsFlat, allowed, Asks, get, set, give, Asked, none, ask, NoRefusal, ReadOff, one, AnswerForAnswer, Served}
 use Rattle.linked.proofs.Board.{receives, receives-all, given-numbers}
@@ -124,3 +120,111 @@ module _ {bytes : List ℕ} where
 
   pub reads-flat-all : {x : Reading} → Reads bytes x → ReadsFlat bytes (flatRead (readAs x))
   reads-flat-all got = allowed ([], tt) (refTo bytes, tt) (refTo bytes, tt) (ap flatRead (has-read got)) refl
+
+-- a frame was written where the number is 0
+frame-written : {q : Request} {room out : List ℕ} {r : FlatWritten} → Asks q room r out → r .number ≡ 0 → Writing q room (Frame (r .size)) out
+frame-written {q} {room} {out} {r} got zero = let w = asks got in by (w .0) (w .1) (w .2)
+  where
+    by : (w : Written) → Writing q room w out → r ≡ flatWritten (writtenAs w) → Writing q room (Frame (r .size)) out
+    by (Frame n) h e = subst (λ (k : ℕ). Writing q room (Frame k) out) (ap (λ (y : FlatWritten). y .size) (sym e)) h
+    by OutOfRange h e = let three : r .number ≡ 3 = ap (λ (y : FlatWritten). y .number) e in absurd (omega arith)
+    by TooShort h e = let four : r .number ≡ 4 = ap (λ (y : FlatWritten). y .number) e in absurd (omega arith)
+
+-- ---- A SEQUENCE
+
+-- asked by the functions behind the exports, with 01's numbers for the orders; where they refuse nothing, N holds
+abbrev Behind : Board → List Request → List ℕ → List ℕ → Board → Type 0 → Type 0
+Behind b qs reply orders end N = (os : List Order) × (is : link.Asked b qs reply os end) × (orders ≡ map orderNumber os) × (link.NoRefusal is → N)
+
+pub asked-is : {b end : Board} {qs : List Request} {reply orders : List ℕ} (asked : Asked b qs reply orders end) → Behind b qs reply orders end (NoRefusal asked)
+asked-is none = ([], link.none, refl, λ h. tt)
+asked-is (ask {b} {end} {q} {w} {t} {room} {out} {before} {after} {r} {qs} {reply} {orders} typed asking zero wide got rest) =
+    let c = receives got in
+    subst
+    (λ (y : FlatCall). (N : Type 0) → Behind (y .board) qs reply orders end N
+    → Behind b (q ∷ qs) (saidBy y after .reply ++ reply) (saidBy y after .orders ++ orders) end (((y .number ≡ 0) × (y .taken ≡ w .size)) × N))
+    (sym (c .2)) (first (c .0) (c .1)) (NoRefusal rest) (asked-is rest)
+  where
+    first : (c : Call) → Answers b t (take (w .size) out) before c after → (N : Type 0) → Behind (c .board) qs reply orders end N
+        → Behind b (q ∷ qs) (take (c .written) after ++ reply) (saidBy (flat c) after .orders ++ orders) end (((c .number ≡ 0) × (c .taken ≡ w .size)) × N)
+    first c answers N more = (
+      given (c .order) ++ more .0,
+      link.ask typed (frame-written asking zero) wide answers (more .1),
+      (λ i. sym (given-numbers (c .order)) i ++ more .2 i) ∙ sym (map-append orderNumber (given (c .order)) (more .0)),
+      λ h. (h .0, more .3 (h .1)),
+    )
+
+-- read off by the functions behind them
+abbrev flatAs : Reading → FlatAnswer
+flatAs y = flatRead (readAs y)
+
+pub off-is : {bytes rest : List ℕ} {xs : List FlatAnswer} → ReadOff bytes xs rest
+    → (ys : List Reading) × link.ReadOff bytes ys rest × (xs ≡ map flatAs ys)
+off-is none = ([], link.none, refl)
+off-is (one {bytes} {rest} {x} {xs} got off) =
+    let y = reads-flat got in
+    let more = off-is off in
+    let behind = subst (λ (k : ℕ). link.ReadOff (drop k bytes) (more .0) rest) (ap (λ (z : FlatAnswer). z .size) (y .2)) (more .1) in
+    (y .0 ∷ more .0, link.one (y .1) behind, λ i. y .2 i ∷ more .2 i)
+
+answers-flat : (ys : List Reading) (rest : List Answer) → link.AnswerForAnswer ys rest → AnswerForAnswer (map flatAs ys) rest
+answers-flat [] [] h = tt
+answers-flat [] (a ∷ rest) h = h
+answers-flat (y ∷ ys) [] h = h
+answers-flat (y ∷ ys) (a ∷ rest) h = (
+  λ i. record {
+    number = h .0 .0 i;
+    kind = answerKind (h .0 .1 i);
+    what = whatOf (h .0 .1 i);
+    size = readAs y .size;
+    blocks = dataBlocks (h .0 .1 i);
+  },
+  answers-flat ys rest (h .1),
+)
+
+-- THE SEQUENCE OF P1, of what C and Rust link: on any board that is ready and whose fields fit their types
+pub asked-served : {b end : Board} {qs : List Request} {reply orders : List ℕ} (asked : Asked b qs reply orders end) → Ready b → TypedBoard b
+    → Served (bookOf (b .memory .settings)) asked
+asked-served {b = b} {qs = qs} asked can fit =
+    let x = asked-is asked in
+    let is = x .1 in
+    let answers = answersTo (bookOf (b .memory .settings)) qs in
+    record {
+      accepted = x .3 (asked-accepted is can);
+      ordered = x .2 ∙ ap (map orderNumber) (asked-orders is can);
+      answered =
+          λ off e.
+          let y = off-is off in
+          let back = asked-read is can fit (y .1) (sym (ap length (y .2) ∙ length-map (y .0) flatAs) ∙ e) in
+          (subst (λ (l : List FlatAnswer). AnswerForAnswer l answers) (sym (y .2)) (answers-flat (y .0) answers (back .0)), back .1);
+      blocks = asked-blocks is can;
+      notes = asked-notes is can;
+      ready = asked-ready is can;
+      typed = asked-typed-again is can fit;
+    }
+
+-- and on the board that they start with: nothing is asked of it
+pub fresh-served : {b end : Board} {qs : List Request} {reply orders : List ℕ} (asked : Asked b qs reply orders end) → Starts b
+    → Served (bookOf freshSettings) asked
+fresh-served {b} asked (board.allowed κs a s is) =
+    subst (λ (y : Board). Served (bookOf (y .memory .settings)) asked) is (asked-served asked (fresh-ready tt tt b tt is) (fresh-typed tt tt b tt is))
+
+-- ---- and what the functions behind them ask and read off, the exports do
+
+pub asked-all : {b end : Board} {qs : List Request} {reply : List ℕ} {os : List Order} → link.Asked b qs reply os end → Asked b qs reply (map orderNumber os) end
+asked-all link.none = none
+asked-all (link.ask {b} {end} {q} {after = after} {r = r} {qs} {reply} {orders = os} typed written wide got rest) =
+    subst (λ (l : List ℕ). Asked b (q ∷ qs) (take (r .written) after ++ reply) l end)
+    ((λ i. sym (given-numbers (r .order)) i ++ map orderNumber os) ∙ sym (map-append orderNumber (given (r .order)) os))
+    (ask {r = flat r} typed (asks-all written) refl wide (receives-all got) (asked-all rest))
+
+pub off-all : {bytes rest : List ℕ} {ys : List Reading} → link.ReadOff bytes ys rest → ReadOff bytes (map flatAs ys) rest
+off-all link.none = none
+off-all (link.one got off) = one (reads-flat-all got) (off-all off)
+
+-- any sequence of requests that no field keeps from being written can be asked of any board that is ready, at any stamp, and read off as often as one likes
+pub linked-askable : (t : ℕ) (qs : List Request) (b : Board) → Ready b → Sendable qs → (reply orders : List ℕ) × (end : Board) × Asked b qs reply orders end
+linked-askable t qs b can good = let x = askable t qs b can good in (x .0, map orderNumber (x .1), x .2, asked-all (x .3))
+
+pub linked-readable : (n : ℕ) (bytes : List ℕ) → (xs : List FlatAnswer) × (rest : List ℕ) × (length xs ≡ n) × ReadOff bytes xs rest
+linked-readable n bytes = let x = readable n bytes in (map flatAs (x .0), x .1, length-map (x .0) flatAs ∙ x .2, off-all (x .3))

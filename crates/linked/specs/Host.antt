@@ -70,7 +70,7 @@ pub data Asked : Board → List Request → List ℕ → List ℕ → Board → 
 -- each call answered 0 and took its frame whole
 abbrev pub NoRefusal : {b end : Board} {qs : List Request} {reply orders : List ℕ} → Asked b qs reply orders end → Type 0
 NoRefusal none = Unit {0}
-NoRefusal (ask {w = w} {r = r} typed asks zero wide got rest) = ((r .number ≡ 0) × (r .taken ≡ w .size)) × NoRefusal rest
+NoRefusal (ask {w = w} {r = r} typed asking zero wide got rest) = ((r .number ≡ 0) × (r .taken ≡ w .size)) × NoRefusal rest
 
 -- bytes read from their front by rivertosku_read, answer after answer, and what is left of them
 pub data ReadOff : List ℕ → List FlatAnswer → List ℕ → Type 0 where
