@@ -13,8 +13,11 @@ use Rattle.demands.specs.Calls.{Answers}
 use Rattle.demands.proofs.Calls.{refTo}
 use Rattle.board.specs.Answer.{flat}
 use Rattle.board.specs.declared.Answer.{Answer as FlatCall}
-use Rattle.host.specs.Names.{blockNumber, blockAt, orderAt}
-use Rattle.host.specs.Names as host
+use Rattle.host.specs.Names.{blockNumber, blockAt, orderAt, orderNumber as numberOf}
+use Rattle.host.specs.declared.Block.{Block}
+use Rattle.host.specs.declared.Order as host
+use Rattle.host.specs.declared.FoundBlock.the-variants as block
+use Rattle.host.specs.declared.FoundOrder.the-variants as order
 use Rattle.host.proofs.Numbered.{block-back, order-back}
 use Rattle.fields.specs.Fields.{blockOf}
 use Rattle.fields.specs.declared.Fields.{Fields}
@@ -81,6 +84,23 @@ module _ {before after : List ℕ} {r : FlatWritten} where
       let w = write-some q before in
       (w .0, subst (Writing q before (w .0)) (sym (said .buffer)) (w .1), said .answer ∙ ap flatWritten (sym (wrote (w .1) .answer)))
 
+module _ {before after : List ℕ} {w : Written} where
+  said-one : {q : Request} → Writing q before w after → FlatWrites (q ∷ []) before (flatWritten (writtenAs w)) after
+  said-one {q} got = flats.asks q before after w _ (wrote got) refl
+
+  pub get-all : {n : ℕ} {b : Block} → blockAt n ≡ block.Known b → Writing (Get b) before w after → WritesGet n before (flatWritten (writtenAs w)) after
+  get-all {n} e got =
+      allowed ([], tt) (n, (refTo before, tt)) (n, (refTo after, tt)) (flats.asks-as _ _ (ap getAsked (sym e)) (said-one got)) refl refl refl
+
+  pub set-all : {n : ℕ} {b : Block} (x : Blocks) → blockAt n ≡ block.Known b → Writing (Set (fieldsAt x b)) before w after → WritesSet n x before (flatWritten (writtenAs w)) after
+  set-all {n} x e got =
+      allowed ([], tt) (n, (x, (refTo before, tt))) (n, (x, (refTo after, tt))) (flats.asks-as _ _ (ap (setAsked x) (sym e)) (said-one got))
+      refl refl refl refl
+
+  pub order-all : {n : ℕ} {o : host.Order} → orderAt n ≡ order.Known o → Writing (Give o) before w after → WritesOrder n before (flatWritten (writtenAs w)) after
+  order-all {n} e got =
+      allowed ([], tt) (n, (refTo before, tt)) (n, (refTo after, tt)) (flats.asks-as _ _ (ap orderAsked (sym e)) (said-one got)) refl refl refl
+
 -- a block's own fields, among blocks that hold them
 own-fields : (f : Fields) → fieldsAt (blocksWith f) (blockOf f) ≡ f
 own-fields (Mov x) = refl
@@ -92,25 +112,14 @@ own-fields (Brk x) = refl
 own-fields (Pid x) = refl
 
 -- so every request can be asked, by the number of its block or order
-pub asks-all : {q : Request} {before after : List ℕ} {w : Written} → Writing q before w after → Asks q before (flatWritten (writtenAs w)) after
-asks-all {q} {before} {after} {w} got = by q (flats.asks q before after w _ (wrote got) refl)
-  where
-    by : (q : Request) → FlatWrites (q ∷ []) before (flatWritten (writtenAs w)) after → Asks q before (flatWritten (writtenAs w)) after
-    by (Get b) said =
-        get (block-back b)
-        (allowed ([], tt) (blockNumber b, (refTo before, tt)) (blockNumber b, (refTo after, tt))
-        (flats.asks-as _ _ (ap getAsked (sym (block-back b))) said) refl refl refl)
-    by (Set f) said =
-        let n = blockNumber (blockOf f) in
-        let x = blocksWith f in
-        let same : Set f ∷ [] ≡ setAsked x (blockAt n) = ap (λ (g : Fields). Set g ∷ []) (sym (own-fields f)) ∙ ap (setAsked x) (sym (block-back (blockOf f))) in
-        subst (λ (g : Fields). Asks (Set g) before (flatWritten (writtenAs w)) after) (own-fields f)
-        (set (block-back (blockOf f))
-        (allowed ([], tt) (n, (x, (refTo before, tt))) (n, (x, (refTo after, tt))) (flats.asks-as _ _ same said) refl refl refl refl))
-    by (Give o) said =
-        give (order-back o)
-        (allowed ([], tt) (host.orderNumber o, (refTo before, tt)) (host.orderNumber o, (refTo after, tt))
-        (flats.asks-as _ _ (ap orderAsked (sym (order-back o))) said) refl refl refl)
+module _ {before after : List ℕ} {w : Written} where
+  pub asks-all : {q : Request} → Writing q before w after → Asks q before (flatWritten (writtenAs w)) after
+  asks-all {q = Get b} got = get {n = blockNumber b} (block-back b) (get-all (block-back b) got)
+  asks-all {q = Set f} got =
+      let back = block-back (blockOf f) in
+      subst (λ (g : Fields). Asks (Set g) before (flatWritten (writtenAs w)) after) (own-fields f)
+      (set {n = blockNumber (blockOf f)} back (set-all (blocksWith f) back (subst (λ (g : Fields). Writing (Set g) before w after) (sym (own-fields f)) got)))
+  asks-all {q = Give o} got = give {n = numberOf o} (order-back o) (order-all (order-back o) got)
 
 module _ {bytes : List ℕ} where
   pub reads-flat : {r : FlatAnswer} → ReadsFlat bytes r → (x : Reading) × Reads bytes x × (r ≡ flatRead (readAs x))
