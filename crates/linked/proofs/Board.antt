@@ -17,12 +17,9 @@ use Rattle.state.specs.State.{stateOf}
 use Rattle.state.specs.Sound.{refusalOf}
 use Rattle.state.specs.declared.Board.{Board}
 use Rattle.state.specs.declared.Call.{Call}
-use Rattle.state.proofs.fresh.Reads as fresh
 use Rattle.clock.specs.declared.Report.{Report}
 use Rattle.receiver.specs.Receive.{answer}
-use Rattle.demands.specs.Calls as calls
 use Rattle.demands.specs.Calls.{Answers}
-use Rattle.demands.specs.Reports as reports
 use Rattle.demands.specs.Reports.{Reports}
 use Rattle.demands.specs.Runs as runs
 use Rattle.demands.specs.Runs.{onBoard, done, next}
