@@ -1,7 +1,9 @@
 /* A board's main loop: stamped pieces in, replies out, orders to the drive, and the time reported when nothing comes. */
 #include "rivertosku.h"
 
+#include <inttypes.h>
 #include <stdio.h>
+#include <string.h>
 
 struct arrival {
     uint32_t stamp;
@@ -47,6 +49,20 @@ static void send_reply(const uint8_t *reply, size_t length)
     printf("\n");
 }
 
+/* A board kept in flash over a restart: judged before it is used. */
+static void restart(const struct rivertosku_board *board)
+{
+    static uint8_t flash[sizeof *board];
+    memcpy(flash, board, sizeof flash);
+    struct rivertosku_board back;
+    memcpy(&back, flash, sizeof back);
+    printf("from flash: %u, %s\n", (unsigned)rivertosku_judge(back), rivertosku_same(back, *board) ? "the same" : "another");
+    /* A bit of the flags has tipped over: 2 has become 18, and no board has flags over 7. */
+    flash[offsetof(struct rivertosku_board, memory.notes.flags)] ^= 0x10;
+    memcpy(&back, flash, sizeof back);
+    printf("from flash: %u, %s\n", (unsigned)rivertosku_judge(back), rivertosku_same(back, *board) ? "the same" : "another");
+}
+
 int main(void)
 {
     struct rivertosku_board board = rivertosku_fresh();
@@ -58,7 +74,7 @@ int main(void)
                 return 1;
             }
             if (report.board.count < board.count) {
-                printf("dropped %zu\n", board.count);
+                printf("dropped %" PRIu64 "\n", board.count);
             }
             board = report.board;
         }
@@ -80,7 +96,8 @@ int main(void)
             left -= answer.taken;
         }
     }
-    printf("t1 %u, flags %u, unfinished %zu, stamp %lu\n", (unsigned)board.memory.settings.brk.t1, (unsigned)board.memory.notes.flags,
-           board.count, (unsigned long)board.stamp);
+    printf("t1 %u, flags %" PRIu64 ", unfinished %" PRIu64 ", stamp %" PRIu32 "\n", (unsigned)board.memory.settings.brk.t1,
+           board.memory.notes.flags, board.count, board.stamp);
+    restart(&board);
     return 0;
 }

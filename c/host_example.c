@@ -17,15 +17,36 @@ static void tell_refusals(const struct rivertosku_blocks *good)
     struct rivertosku_blocks bad = *good;
     bad.mov.accel = 0;
     printf("accel 0: %u\n", (unsigned)rivertosku_write_set(RIVERTOSKU_MOV, bad, frame, sizeof frame).number);
-    printf("room for 29 bytes: %u\n", (unsigned)rivertosku_write_set(RIVERTOSKU_MOV, *good, frame, 29).number);
+    printf("a byte too little room: %u\n", (unsigned)rivertosku_write_set(RIVERTOSKU_MOV, *good, frame, RIVERTOSKU_MOV_FRAME - 1).number);
     printf("block 8: %u\n", (unsigned)rivertosku_write_get(8, frame, sizeof frame).number);
 
     /* 5 and 7 ask for more bytes; behind 6 and 8 the line has to be brought into step again. */
-    const uint8_t damaged[25] = {'g', 'b', 'r', 'k', 0xFE, 0xFF};
+    const uint8_t damaged[RIVERTOSKU_BRK_FRAME] = {'g', 'b', 'r', 'k', 0xFE, 0xFF};
     printf("three bytes: %u\n", (unsigned)rivertosku_read((const uint8_t *)"err", 3).number);
     printf("errx: %u\n", (unsigned)rivertosku_read((const uint8_t *)"errx", 4).number);
     printf("data cut short: %u\n", (unsigned)rivertosku_read(damaged, sizeof damaged - 1).number);
     printf("data damaged: %u\n", (unsigned)rivertosku_read(damaged, sizeof damaged).number);
+}
+
+/* The set of each block, of fresh values, in a buffer that it just fits and in one a byte shorter. */
+static void tell_lengths(void)
+{
+    static const size_t frames[] = {RIVERTOSKU_MOV_FRAME, RIVERTOSKU_ENG_FRAME, RIVERTOSKU_PWR_FRAME, RIVERTOSKU_EDS_FRAME,
+                                    RIVERTOSKU_HOM_FRAME, RIVERTOSKU_BRK_FRAME, RIVERTOSKU_PID_FRAME};
+    uint8_t frame[RIVERTOSKU_FRAME];
+    /* A refused reading has fresh values in all blocks. */
+    struct rivertosku_blocks fresh = rivertosku_read(NULL, 0).blocks;
+    printf("sets of");
+    for (uint8_t block = RIVERTOSKU_MOV; block <= RIVERTOSKU_PID; block++) {
+        size_t length = frames[block - RIVERTOSKU_MOV];
+        struct rivertosku_written written = rivertosku_write_set(block, fresh, frame, length);
+        struct rivertosku_written shorter = rivertosku_write_set(block, fresh, frame, length - 1);
+        if (written.number != RIVERTOSKU_WRITTEN || written.length != length || shorter.number != RIVERTOSKU_TOO_SHORT) {
+            stop("another length, block", block);
+        }
+        printf(" %zu", length);
+    }
+    printf(" bytes\n");
 }
 
 static void tell(const struct rivertosku_reading *reading)
@@ -114,5 +135,6 @@ int main(void)
     /* A name that no board knows, and a zero: two answers in one reply. */
     send_bytes(&board, (const uint8_t *)"xxxx", 5);
     tell_refusals(&wanted);
+    tell_lengths();
     return 0;
 }

@@ -1,11 +1,32 @@
 /* The proved receiver of a stepper board, and the optimiser's end of its link. `rt staticlib board` and `rt staticlib optimiser` build them
-   into target/staticlib/libboard.a and liboptimiser.a; a program links the one it needs, or both. */
+   into target/staticlib/libboard.a and liboptimiser.a, for x86-64; a program links the one it needs, or both. Needs C11 or C++11. */
 #ifndef RIVERTOSKU_H
 #define RIVERTOSKU_H
 
+#ifdef __cplusplus
+#if __cplusplus < 201103L
+#error "rivertosku.h needs C++11"
+#endif
+#elif !defined(__STDC_VERSION__) || __STDC_VERSION__ < 201112L
+#error "rivertosku.h needs C11"
+#endif
+
 #include <assert.h>
+#include <stdbool.h>
 #include <stddef.h>
 #include <stdint.h>
+
+#ifdef __cplusplus
+extern "C" {
+#endif
+
+/* The layout of the structs below. Its number stands in the name of a function of each archive too, and the calls marked "tied" call that
+   function: a header and an archive of different layouts do not link. */
+#define RIVERTOSKU_LAYOUT 1
+#define RIVERTOSKU_GLUE(name, number) name##number
+#define RIVERTOSKU_NUMBERED(name, number) RIVERTOSKU_GLUE(name, number)
+#define RIVERTOSKU_BOARD_LAYOUT RIVERTOSKU_NUMBERED(rivertosku_board_layout_, RIVERTOSKU_LAYOUT)
+#define RIVERTOSKU_HOST_LAYOUT RIVERTOSKU_NUMBERED(rivertosku_host_layout_, RIVERTOSKU_LAYOUT)
 
 /* The longest frame of a request, which is also the longest answer. */
 #define RIVERTOSKU_FRAME 48
@@ -31,6 +52,17 @@ enum {
     RIVERTOSKU_HOM = 5,
     RIVERTOSKU_BRK = 6,
     RIVERTOSKU_PID = 7
+};
+
+/* How long a block's frame is: its set, and the answer to its get. A get, an order, an echo and an error have 4 bytes. */
+enum {
+    RIVERTOSKU_MOV_FRAME = 30,
+    RIVERTOSKU_ENG_FRAME = 34,
+    RIVERTOSKU_PWR_FRAME = 20,
+    RIVERTOSKU_EDS_FRAME = 26,
+    RIVERTOSKU_HOM_FRAME = 33,
+    RIVERTOSKU_BRK_FRAME = 25,
+    RIVERTOSKU_PID_FRAME = 48
 };
 
 /* Orders. */
@@ -138,9 +170,9 @@ struct rivertosku_settings {
 
 /* Flags, and the block and field that an errv refused last (0 and 0: none). */
 struct rivertosku_notes {
-    size_t flags;
-    size_t block;
-    size_t field;
+    uint64_t flags;
+    uint64_t block;
+    uint64_t field;
 };
 
 /* What a board remembers of the units that have ended. */
@@ -149,20 +181,21 @@ struct rivertosku_memory {
     struct rivertosku_notes notes;
 };
 
-/* What a board keeps between calls. Read it as you like; change it by rivertosku_receive and rivertosku_report_clock only. */
+/* What a board keeps between calls. Read it as you like; change it by rivertosku_receive and rivertosku_report_clock only. The gaps of the
+   structs are not set: two boards that are the same need not be the same bytes, in memory or in flash. Compare by rivertosku_same. */
 struct rivertosku_board {
     struct rivertosku_memory memory;
-    uint8_t held[RIVERTOSKU_FRAME]; /* the bytes of the unfinished unit stand in front */
-    size_t count;                   /* how many they are */
+    uint8_t held[RIVERTOSKU_FRAME]; /* the bytes of the unfinished unit stand in front; behind them zeros, after each call that takes a byte */
+    uint64_t count;                 /* how many they are */
     uint32_t stamp;                 /* of the last byte taken */
 };
 
 struct rivertosku_answer {
     struct rivertosku_board board;
-    size_t taken;   /* bytes of the piece; offer the rest again with its stamp */
-    size_t written; /* reply bytes, to be sent */
-    uint8_t number; /* 0 accepted, else the refusal */
-    uint8_t order;  /* to be carried out now, 0 for none */
+    uint64_t taken;   /* bytes of the piece; offer the rest again with its stamp */
+    uint64_t written; /* reply bytes, to be sent */
+    uint8_t number;   /* 0 accepted, else the refusal */
+    uint8_t order;    /* to be carried out now, 0 for none */
 };
 
 struct rivertosku_report {
@@ -170,12 +203,20 @@ struct rivertosku_report {
     struct rivertosku_board board;
 };
 
-/* A board that has taken nothing yet. */
+/* A board that has taken nothing yet. Tied. */
 struct rivertosku_board rivertosku_fresh(void);
+
+/* 0, or RIVERTOSKU_UNSOUND where no board can be in this state; does nothing else. For a board read back from flash: a program that restarts
+   with one judges it before the first call. Tied. */
+uint8_t rivertosku_judge(struct rivertosku_board board);
+
+/* Whether two boards are the same: stamp, notes, unfinished bytes, and each block as a get sends it, so minus zero is not zero. Spare bytes
+   and gaps play no part. Any two boards may be asked, sound or not. */
+bool rivertosku_same(struct rivertosku_board a, struct rivertosku_board b);
 
 /* One call: a piece of bytes that share a stamp in milliseconds, and room for the replies. An accepted call stops when the piece ends,
    behind an order, or before a byte whose reply does not fit; of a piece that is not empty it takes at least one byte. Piece and reply
-   must not overlap. */
+   must not overlap. Here and below a null pointer is fine where the length is 0. */
 struct rivertosku_answer rivertosku_receive(struct rivertosku_board board, const uint8_t *piece, size_t piece_len, uint32_t stamp,
                                             uint8_t *reply, size_t reply_len);
 
@@ -183,8 +224,14 @@ struct rivertosku_answer rivertosku_receive(struct rivertosku_board board, const
    over 400 ms ago; nothing else changes, the last stamp neither, so a report does not restart the wait.
    A call looks at the clock only when a byte comes. While something is unfinished, the main loop has to report at least every 2^32 - 401 ms
    (some 49.7 days), counted from the last byte or report, or half a command may be resumed when the counter has come round; once a second
-   or once a minute is plenty. Bytes that came earlier and are not yet taken may be offered behind a report, with their own stamp. */
+   or once a minute is plenty. Bytes that came earlier and are not yet taken may be offered behind a report, with their own stamp.
+   Never report a time from before the last stamp handed over: it reads as a wait of 49 days, and drops a live command. */
 struct rivertosku_report rivertosku_report_clock(struct rivertosku_board board, uint32_t now);
+
+/* The tie. A macro's own name stands for the function. */
+uint32_t RIVERTOSKU_BOARD_LAYOUT(void);
+#define rivertosku_fresh() ((void)RIVERTOSKU_BOARD_LAYOUT(), rivertosku_fresh())
+#define rivertosku_judge(...) ((void)RIVERTOSKU_BOARD_LAYOUT(), rivertosku_judge(__VA_ARGS__))
 
 /* The optimiser's end, in liboptimiser.a. */
 
@@ -199,12 +246,12 @@ struct rivertosku_blocks {
     struct rivertosku_pid pid;
 };
 
-/* The number of a written request. A refused one writes nothing. */
+/* The number of a written request, tested in the sequence 9, 3, 4. A refused one writes nothing. */
 enum {
     RIVERTOSKU_WRITTEN = 0,
     RIVERTOSKU_OUT_OF_RANGE = 3, /* a value that the board would refuse */
     RIVERTOSKU_TOO_SHORT = 4,    /* a buffer shorter than the frame */
-    RIVERTOSKU_NOBODY = 9        /* a number of no block or order */
+    RIVERTOSKU_NOBODY = 9        /* a number of no block or order: nothing else is looked at */
 };
 
 /* The number of a read answer. */
@@ -229,47 +276,77 @@ enum {
 };
 
 struct rivertosku_written {
-    uint8_t number; /* 0 written, else the refusal */
-    size_t length;  /* of the frame, to be sent; 0 if refused */
+    uint8_t number;  /* 0 written, else the refusal */
+    uint64_t length; /* of the frame, to be sent; 0 if refused */
 };
 
 struct rivertosku_reading {
     uint8_t number; /* 0 read, else the refusal */
     uint8_t kind;
     uint8_t what;                    /* the block of an echoed set or of data, the order of an echo; 0 otherwise */
-    size_t length;                   /* of the answer; 0 if refused */
+    uint64_t length;                 /* of the answer; 0 if refused */
     struct rivertosku_blocks blocks; /* data stands in its block, all else is fresh; in range or not */
 };
 
-/* A request's frame at the front of out. Bytes past the frame are kept. */
+/* A request's frame at the front of out. Bytes past the frame are kept. Tied. */
 struct rivertosku_written rivertosku_write_get(uint8_t block, uint8_t *out, size_t out_len);
 struct rivertosku_written rivertosku_write_order(uint8_t order, uint8_t *out, size_t out_len);
 
-/* A set of one block, with its fields among the blocks; the other blocks there are not looked at. */
+/* A set of one block, with its fields among the blocks; the other blocks there are not looked at. Tied. */
 struct rivertosku_written rivertosku_write_set(uint8_t block, struct rivertosku_blocks blocks, uint8_t *out, size_t out_len);
 
-/* One answer from the front of what the board sent. A gain that is no number comes as some NaN. */
+/* One answer from the front of what the board sent. A gain that is no number comes as some NaN. Tied. */
 struct rivertosku_reading rivertosku_read(const uint8_t *bytes, size_t bytes_len);
 
-/* The sizes on a 64-bit machine, as Rust has them (rust/src/blocks.rs, board.rs and host.rs, tests sizes). */
-#if SIZE_MAX == UINT64_MAX
+/* The tie. */
+uint32_t RIVERTOSKU_HOST_LAYOUT(void);
+#define rivertosku_write_get(...) ((void)RIVERTOSKU_HOST_LAYOUT(), rivertosku_write_get(__VA_ARGS__))
+#define rivertosku_write_order(...) ((void)RIVERTOSKU_HOST_LAYOUT(), rivertosku_write_order(__VA_ARGS__))
+#define rivertosku_write_set(...) ((void)RIVERTOSKU_HOST_LAYOUT(), rivertosku_write_set(__VA_ARGS__))
+#define rivertosku_read(...) ((void)RIVERTOSKU_HOST_LAYOUT(), rivertosku_read(__VA_ARGS__))
+
+/* The sizes, as Rust has them (rust/src/blocks.rs, board.rs and host.rs, tests sizes), and the field behind each gap. */
+#define RIVERTOSKU_AT(name, field, place) static_assert(offsetof(struct rivertosku_##name, field) == place, #name "." #field)
+static_assert(sizeof(size_t) == 8, "the archives are for a 64-bit machine");
 static_assert(sizeof(struct rivertosku_mov) == 20, "mov");
+RIVERTOSKU_AT(mov, accel, 6);
+RIVERTOSKU_AT(mov, antiplay_speed, 12);
 static_assert(sizeof(struct rivertosku_eng) == 20, "eng");
+RIVERTOSKU_AT(eng, engine_flags, 10);
+RIVERTOSKU_AT(eng, steps_per_rev, 16);
 static_assert(sizeof(struct rivertosku_pwr) == 10, "pwr");
+RIVERTOSKU_AT(pwr, curr_reduct_delay, 2);
 static_assert(sizeof(struct rivertosku_eds) == 20, "eds");
+RIVERTOSKU_AT(eds, left_border, 4);
+RIVERTOSKU_AT(eds, right_border, 12);
 static_assert(sizeof(struct rivertosku_hom) == 24, "hom");
+RIVERTOSKU_AT(hom, slow_home, 8);
+RIVERTOSKU_AT(hom, home_delta, 16);
 static_assert(sizeof(struct rivertosku_brk) == 10, "brk");
 static_assert(sizeof(struct rivertosku_pid) == 20, "pid");
+RIVERTOSKU_AT(pid, kpf, 8);
 static_assert(sizeof(struct rivertosku_settings) == 128, "settings");
+RIVERTOSKU_AT(settings, eds, 52);
+RIVERTOSKU_AT(settings, pid, 108);
 static_assert(sizeof(struct rivertosku_notes) == 24, "notes");
 static_assert(sizeof(struct rivertosku_memory) == 152, "memory");
 /* The held bytes fill whole words; count and stamp follow. */
 static_assert(sizeof(struct rivertosku_board) == 152 + (RIVERTOSKU_FRAME + 7) / 8 * 8 + 16, "board");
+RIVERTOSKU_AT(board, count, 152 + (RIVERTOSKU_FRAME + 7) / 8 * 8);
 static_assert(sizeof(struct rivertosku_answer) == 24 + sizeof(struct rivertosku_board), "answer");
 static_assert(sizeof(struct rivertosku_report) == 8 + sizeof(struct rivertosku_board), "report");
+RIVERTOSKU_AT(report, board, 8);
 static_assert(sizeof(struct rivertosku_blocks) == 128, "blocks");
+RIVERTOSKU_AT(blocks, eds, 52);
+RIVERTOSKU_AT(blocks, pid, 108);
 static_assert(sizeof(struct rivertosku_written) == 16, "written");
+RIVERTOSKU_AT(written, length, 8);
 static_assert(sizeof(struct rivertosku_reading) == 16 + sizeof(struct rivertosku_blocks), "reading");
+RIVERTOSKU_AT(reading, length, 8);
+#undef RIVERTOSKU_AT
+
+#ifdef __cplusplus
+}
 #endif
 
 #endif

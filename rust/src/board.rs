@@ -66,8 +66,15 @@ struct Report {
     board: Parts,
 }
 
+// The library's words have 64 bits, and so have Rust's.
+const _: () = assert!(usize::BITS == 64);
+
 extern "C" {
+    // A library whose structs are laid out in another way has another number in this name, and does not link.
+    fn rivertosku_board_layout_1() -> u32;
     fn rivertosku_fresh() -> Parts;
+    fn rivertosku_judge(board: Parts) -> u8;
+    fn rivertosku_same(a: Parts, b: Parts) -> bool;
     fn rivertosku_receive(board: Parts, piece: *const u8, piece_len: usize, stamp: u32, reply: *mut u8, reply_len: usize) -> Answer;
     fn rivertosku_report_clock(board: Parts, now: u32) -> Report;
 }
@@ -142,7 +149,23 @@ impl Board {
     /// A board that has taken nothing yet.
     pub fn fresh() -> Board {
         // SAFETY: no arguments; the struct is the library's, field for field.
-        Board(unsafe { rivertosku_fresh() })
+        Board(unsafe {
+            rivertosku_board_layout_1();
+            rivertosku_fresh()
+        })
+    }
+
+    /// `Accepted`, or `Unsound` where no board can be in this state; does nothing else.
+    pub fn judge(&self) -> Number {
+        // SAFETY: no memory is handed over; any board value is allowed.
+        Number::answered(unsafe { rivertosku_judge(self.0) })
+    }
+
+    /// Whether two boards are the same: stamp, notes, unfinished bytes, and each block as a get sends it, so minus zero is not zero. Spare
+    /// bytes play no part, which `==` compares too.
+    pub fn same(&self, other: &Board) -> bool {
+        // SAFETY: no memory is handed over; any board values are allowed.
+        unsafe { rivertosku_same(self.0, other.0) }
     }
 
     /// One call: a piece of bytes that share a stamp in milliseconds, and room for the replies. A refused call changes nothing.
@@ -168,7 +191,7 @@ impl Board {
     /// A call looks at the clock only when a byte comes. While something is unfinished, the main loop has to report at least every
     /// 2^32 - 401 ms (some 49.7 days), counted from the last byte or report, or half a command may be resumed when the counter has come
     /// round; once a second or once a minute is plenty. Bytes that came earlier and are not yet taken may be offered behind a report, with
-    /// their own stamp.
+    /// their own stamp. Never report a time from before the last stamp handed over: it reads as a wait of 49 days, and drops a live command.
     pub fn report_clock(&mut self, now: u32) -> Number {
         // SAFETY: no memory is handed over; any board value is allowed.
         let report = unsafe { rivertosku_report_clock(self.0, now) };
@@ -228,6 +251,62 @@ mod tests {
         // The held bytes fill whole words; count and stamp follow.
         let board = 152 + FRAME.next_multiple_of(8) + 16;
         assert_eq!(sizes, [128, 24, 152, board, 24 + board, 8 + board]);
+    }
+
+    #[test]
+    fn same_and_judged() {
+        let mut board = Board::fresh();
+        board.report_clock(7);
+        assert!(board.same(&Board::fresh()));
+        let _ = board.receive(b"spid", 1000, &mut [0; ROOM]);
+        assert_eq!(board.judge(), Number::Accepted);
+        let changed = |change: &dyn Fn(&mut Parts)| {
+            let mut parts = *board.parts();
+            change(&mut parts);
+            Board::from_parts(parts)
+        };
+        // A spare byte plays no part; the bytes before it do.
+        let spare = changed(&|parts| parts.held[4] = 1);
+        assert!(spare != board && spare.same(&board));
+        let others: [&dyn Fn(&mut Parts); 14] = [
+            &|parts| parts.memory.settings.mov.u_antiplay_speed = 1,
+            &|parts| parts.memory.settings.eng.antiplay = -1,
+            &|parts| parts.memory.settings.pwr.power_flags = 1,
+            &|parts| parts.memory.settings.eds.u_right_border = -1,
+            &|parts| parts.memory.settings.hom.home_flags = 0x100,
+            &|parts| parts.memory.settings.brk.t4 = 0x8000,
+            &|parts| parts.memory.settings.pid.kdf = -0.0,
+            &|parts| parts.memory.notes.flags = 1,
+            &|parts| parts.memory.notes.block = 1,
+            &|parts| parts.memory.notes.field = 1 << 32,
+            &|parts| parts.held[3] = b's',
+            &|parts| parts.count = 5,
+            &|parts| parts.stamp = 1000 + (1 << 31),
+            &|parts| (parts.held, parts.count) = ([0; FRAME], 0),
+        ];
+        for change in others {
+            let other = changed(change);
+            assert!(!other.same(&board) && !board.same(&other) && other.same(&other), "{other:?}");
+        }
+        // Sound and unsound ones can be asked. A count past the bytes held counts them all.
+        let unsound = [changed(&|parts| parts.count = FRAME), changed(&|parts| parts.count = usize::MAX)];
+        assert!(unsound[0].same(&unsound[1]));
+        assert!(unsound.iter().all(|board| board.judge() == Number::Unsound));
+        assert_eq!(changed(&|parts| parts.memory.notes.flags = 8).judge(), Number::Unsound);
+    }
+
+    /// A null pointer is fine where the length is 0.
+    #[test]
+    fn null_with_length_0() {
+        let (mut room, fresh) = ([0; ROOM], *Board::fresh().parts());
+        // SAFETY: as in `receive`, but for the pointer under test.
+        let answers = unsafe {
+            [
+                rivertosku_receive(fresh, std::ptr::null(), 0, 9, room.as_mut_ptr(), ROOM),
+                rivertosku_receive(fresh, std::ptr::null(), 0, 9, std::ptr::null_mut(), 0),
+            ]
+        };
+        assert_eq!(answers.map(|answer| (answer.number, answer.board)), [(0, fresh), (2, fresh)]);
     }
 
     #[test]

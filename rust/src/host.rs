@@ -154,6 +154,8 @@ struct FlatAnswer {
 }
 
 extern "C" {
+    // A library whose structs are laid out in another way has another number in this name, and does not link.
+    fn rivertosku_host_layout_1() -> u32;
     fn rivertosku_write_get(block: u8, out: *mut u8, out_len: usize) -> FlatWritten;
     fn rivertosku_write_set(block: u8, blocks: Blocks, out: *mut u8, out_len: usize) -> FlatWritten;
     fn rivertosku_write_order(order: u8, out: *mut u8, out_len: usize) -> FlatWritten;
@@ -165,6 +167,7 @@ pub fn write(request: &Request, out: &mut [u8]) -> Result<usize, WriteRefusal> {
     let (to, room) = (out.as_mut_ptr(), out.len());
     // SAFETY: the buffer is live and of this length, and the library does not keep it; any number and any blocks are allowed.
     let written = unsafe {
+        rivertosku_host_layout_1();
         match request {
             Request::Get(block) => rivertosku_write_get(*block as u8, to, room),
             Request::Set(fields) => rivertosku_write_set(fields.block() as u8, fields.blocks(), to, room),
@@ -182,7 +185,10 @@ pub fn write(request: &Request, out: &mut [u8]) -> Result<usize, WriteRefusal> {
 /// Reads one answer from the front of what the board sent and gives it with its length.
 pub fn read(bytes: &[u8]) -> Result<(Answer, usize), ReadRefusal> {
     // SAFETY: the bytes are live and of this length; the library does not keep them.
-    let read = unsafe { rivertosku_read(bytes.as_ptr(), bytes.len()) };
+    let read = unsafe {
+        rivertosku_host_layout_1();
+        rivertosku_read(bytes.as_ptr(), bytes.len())
+    };
     match read.number {
         0 => Ok((answer(&read), read.length)),
         5 => Err(ReadRefusal::NoName),
@@ -276,6 +282,21 @@ mod tests {
         let flat = unsafe { [rivertosku_write_set(1, Blocks::default(), to, room), rivertosku_write_get(1, to, 3)] };
         assert_eq!(flat.map(|written| (written.number, written.length)), [(3, 0), (4, 0)]);
         assert_eq!(out, [0xAA; FRAME]);
+        // 9 stands before 3 and 4, and a null pointer is fine where the length is 0.
+        let none = std::ptr::null_mut();
+        // SAFETY: as in `write`, but for the pointer under test.
+        let flat = unsafe {
+            [
+                rivertosku_write_set(0, Blocks::default(), none, 0),
+                rivertosku_write_get(8, none, 0),
+                rivertosku_write_order(8, none, 0),
+                rivertosku_write_set(1, Blocks::default(), none, 0),
+                rivertosku_write_get(1, none, 0),
+            ]
+        };
+        assert_eq!(flat.map(|written| written.number), [9, 9, 9, 3, 4]);
+        // SAFETY: as above.
+        assert_eq!(unsafe { rivertosku_read(none, 0) }.number, 5);
     }
 
     /// All blocks but the one read are fresh, and all of them in a refusal.

@@ -1,9 +1,15 @@
 -- Each public function's promise leaves one answer. Assumes nothing.
 use mathlib.Core.Path.{sym, _∙_}
 use Rattle.promise.specs.Promise.{Leaves}
+use Rattle.board.proofs.rivertosku_board_layout_1.Reads as rivertosku-board-layout
 use Rattle.board.proofs.rivertosku_fresh.Reads as rivertosku-fresh
 use Rattle.board.proofs.rivertosku_receive.Reads as rivertosku-receive
 use Rattle.board.proofs.rivertosku_report_clock.Reads as rivertosku-report-clock
+use Rattle.board.proofs.rivertosku_judge.Reads as rivertosku-judge
+use Rattle.board.proofs.rivertosku_same.Reads as rivertosku-same
+
+pub rivertosku-board-layout-one : Leaves rivertosku-board-layout.Post (λ κs r s. r)
+rivertosku-board-layout-one κs a r r' s s' p q = p ∙ sym q
 
 pub rivertosku-fresh-one : Leaves rivertosku-fresh.Post (λ κs r s. r)
 rivertosku-fresh-one κs a r r' s s' p q = p ∙ sym q
@@ -17,3 +23,9 @@ rivertosku-receive-bytes-one κs a r r' s s' p q = p .reply ∙ sym (q .reply)
 
 pub rivertosku-report-clock-one : Leaves rivertosku-report-clock.Post (λ κs r s. r)
 rivertosku-report-clock-one κs a r r' s s' p q = p ∙ sym q
+
+pub rivertosku-judge-one : Leaves rivertosku-judge.Post (λ κs r s. r)
+rivertosku-judge-one κs a r r' s s' p q = p ∙ sym q
+
+pub rivertosku-same-one : Leaves rivertosku-same.Post (λ κs r s. r)
+rivertosku-same-one κs a r r' s s' p q = p ∙ sym q

@@ -1,4 +1,4 @@
-// The receiver as C and Rust link it: the same three functions under plain names, the order as 01's number.
+// The receiver as C and Rust link it: functions of the crates below under plain names, the order as 01's number.
 use clock::Report;
 use state::Board;
 ghost use mathlib.Core.Path.{_≡_};
@@ -8,6 +8,7 @@ ghost use Rattle.unit.specs.Protocol.{protocol, freshState};
 ghost use Rattle.state.specs.State.{stateOf, boardOf};
 ghost use Rattle.state.specs.Sound.{refusalOf};
 ghost use Rattle.clock.specs.Report.{reported};
+ghost use Rattle.same.specs.Same.{sameBoards};
 ghost use Rattle.board.specs.Answer.{Answered};
 
 // What a call answers, flat.
@@ -18,6 +19,15 @@ pub struct Answer {
     pub written: usize,
     pub number: u8,
     pub order: u8,
+}
+
+// The number of the layout of the structs that are handed over, in the name too: a header of another layout asks for a name that is not there, and
+// does not link.
+#[no_mangle]
+pub extern "C" fn rivertosku_board_layout_1() -> u32
+    ensures { λ r. ⌜ r ≡ 1 ⌝ }
+{
+    1
 }
 
 // A board that has taken nothing yet.
@@ -56,4 +66,21 @@ pub extern "C" fn rivertosku_report_clock(board: Board, now: u32) -> Report
     ensures { λ r. ⌜ r ≡ reported board now ⌝ }
 {
     clock::report_time(board, now)
+}
+
+// 0, or 3 where the board is not sound.
+#[no_mangle]
+pub extern "C" fn rivertosku_judge(board: Board) -> u8
+    ensures { λ r. ⌜ r ≡ refusalOf board ⌝ }
+{
+    let verdict = state::judge(board);
+    verdict.number
+}
+
+// Whether two boards are the same: spare bytes and gaps play no part.
+#[no_mangle]
+pub extern "C" fn rivertosku_same(a: Board, b: Board) -> bool
+    ensures { λ r. ⌜ r ≡ sameBoards a b ⌝ }
+{
+    same::boards(a, b)
 }

@@ -31,6 +31,15 @@ pub struct FlatAnswer {
     pub blocks: Blocks,
 }
 
+// The number of the layout of the structs that are handed over, in the name too: a header of another layout asks for a name that is not there, and
+// does not link.
+#[no_mangle]
+pub extern "C" fn rivertosku_host_layout_1() -> u32
+    ensures { λ r. ⌜ r ≡ 1 ⌝ }
+{
+    1
+}
+
 fn flat_written(written: Written) -> FlatWritten
     ensures { λ r. ⌜ r ≡ flatWritten (writtenAs written) ⌝ }
 {

@@ -1,0 +1,4 @@
+pub mod Alike
+pub mod Blocks
+pub mod Meaning
+pub mod One

@@ -1,0 +1,45 @@
+-- When two boards are the same.
+use mathlib.Core.Bool.{Bool, true, false, cond}
+use mathlib.Core.List.{List, [], _∷_}
+use Prim.Native.Nat.{ℕ, zero, suc}
+use lib.Dec.{eqb}
+use Rattle.rule.specs.Rule.{State}
+use Rattle.settings.specs.Settings.{dataAt}
+use Rattle.settings.specs.declared.Settings.{Settings}
+use Rattle.unit.specs.declared.Notes.{Notes}
+use Rattle.unit.specs.declared.Memory.{Memory}
+use Rattle.state.specs.State.{stateOf}
+use Rattle.state.specs.declared.Board.{Board}
+
+-- two lists of bytes are one
+unfoldable pub sameBytes : List ℕ → List ℕ → Bool
+sameBytes [] [] = true
+sameBytes [] (y ∷ ys) = false
+sameBytes (x ∷ xs) [] = false
+sameBytes (x ∷ xs) (y ∷ ys) = cond (eqb x y) (sameBytes xs ys) false
+
+-- blocks 1 to n, each as a get sends it
+unfoldable pub sameTo : ℕ → Settings → Settings → Bool
+sameTo zero s t = true
+sameTo (suc n) s t = cond (sameBytes (dataAt s (suc n)) (dataAt t (suc n))) (sameTo n s t) false
+
+-- all blocks
+abbrev pub sameSettings : Settings → Settings → Bool
+sameSettings s t = sameTo 7 s t
+
+-- the flags, and the last refused block and field
+abbrev pub sameNotes : Notes → Notes → Bool
+sameNotes m n = cond (eqb (m .flags) (n .flags)) (cond (eqb (m .block) (n .block)) (eqb (m .field) (n .field)) false) false
+
+-- what the rule knows of a board: the last stamp, the notes, the unfinished bytes, the blocks
+abbrev pub sameStates : State Memory → State Memory → Bool
+sameStates s t =
+    cond (eqb (s .line .last) (t .line .last))
+    (cond (sameNotes (s .memory .notes) (t .memory .notes))
+    (cond (sameBytes (s .line .unfinished) (t .line .unfinished)) (sameSettings (s .memory .settings) (t .memory .settings)) false)
+    false)
+    false
+
+-- TWO BOARDS ARE THE SAME. Bytes behind the unfinished ones, and the gaps of a struct, play no part
+abbrev pub sameBoards : Board → Board → Bool
+sameBoards a b = sameStates (stateOf a) (stateOf b)

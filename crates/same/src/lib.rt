@@ -1,0 +1,105 @@
+// Whether two boards are the same: in what they keep, and not in the bytes of their structs, whose gaps are anything.
+use settings::Settings;
+use state::Board;
+use unit::Notes;
+ghost use mathlib.Core.Path.{_≡_};
+ghost use Prim.Native.Nat.{min};
+ghost use lib.ListN.{length, take};
+ghost use Rattle.sheet.specs.Lengths.{longestFrame};
+ghost use Rattle.settings.specs.Settings.{dataAt};
+ghost use Rattle.same.specs.Same.{sameBytes, sameSettings, sameNotes, sameBoards};
+
+// Whether two parts are the same bytes.
+fn bytes(a: &[u8], b: &[u8]) -> bool
+    ensures { λ r. ⌜ r ≡ sameBytes (now (a .entry)) (now (b .entry)) ⌝ }
+{
+    if a.len() != b.len() {
+        return false;
+    }
+    let mut i = 0;
+    while i < a.len() {
+        if a[i] != b[i] {
+            return false;
+        }
+        i += 1;
+    }
+    true
+}
+
+// Whether the block of this number is the same: both are laid out as a get sends them.
+fn block(a: Settings, b: Settings, number: usize) -> bool
+    ensures { λ r. ⌜ r ≡ sameBytes (dataAt a number) (dataAt b number) ⌝ }
+{
+    let mut x = [0u8; sheet::FRAME];
+    let mut y = [0u8; sheet::FRAME];
+    a.get(number, &mut x);
+    b.get(number, &mut y);
+    bytes(&x, &y)
+}
+
+// Whether every block is the same, from the last to the first.
+fn settings(a: Settings, b: Settings) -> bool
+    ensures { λ r. ⌜ r ≡ sameSettings a b ⌝ }
+{
+    let mut k = 7;
+    while 0 < k {
+        if !block(a, b, k) {
+            return false;
+        }
+        k -= 1;
+    }
+    true
+}
+
+fn notes(a: Notes, b: Notes) -> bool
+    ensures { λ r. ⌜ r ≡ sameNotes a b ⌝ }
+{
+    if a.flags != b.flags {
+        return false;
+    }
+    if a.block != b.block {
+        return false;
+    }
+    a.field == b.field
+}
+
+// As many of the bytes held as there are.
+fn most(n: usize) -> usize
+    ensures { λ r. ⌜ r ≡ min n longestFrame ⌝ }
+{
+    if n < sheet::FRAME { n } else { sheet::FRAME }
+}
+
+// Whether the first bytes held, m of the one and n of the other, are the same.
+fn unfinished(x: [u8; sheet::FRAME], m: usize, y: [u8; sheet::FRAME], n: usize) -> bool
+    requires { ⌜ (length x ≡ longestFrame) × (length y ≡ longestFrame) ⌝ }
+    ensures { λ r. ⌜ r ≡ sameBytes (take m x) (take n y) ⌝ }
+{
+    let i = most(m);
+    let j = most(n);
+    bytes(&x[..i], &y[..j])
+}
+
+// Whether two boards are the same: last stamp, notes, unfinished bytes, and every block as a get sends it.
+pub fn boards(a: Board, b: Board) -> bool
+    ensures { λ r. ⌜ r ≡ sameBoards a b ⌝ }
+{
+    if a.stamp != b.stamp {
+        return false;
+    }
+    let x = a.memory;
+    let y = b.memory;
+    let m = x.notes;
+    let n = y.notes;
+    if !notes(m, n) {
+        return false;
+    }
+    let front = a.held;
+    let other = b.held;
+    if !unfinished(front, a.count, other, b.count) {
+        return false;
+    }
+    let s = x.settings;
+    let t = y.settings;
+    settings(s, t)
+}
