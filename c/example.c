@@ -56,11 +56,11 @@ static void restart(const struct rivertosku_board *board)
     memcpy(flash, board, sizeof flash);
     struct rivertosku_board back;
     memcpy(&back, flash, sizeof back);
-    printf("from flash: %u, %s\n", (unsigned)rivertosku_judge(back), rivertosku_same(back, *board) ? "the same" : "another");
+    printf("from flash: %u, compared %u\n", (unsigned)rivertosku_judge(back), (unsigned)rivertosku_same(back, *board));
     /* A bit of the flags has tipped over: 2 has become 18, and no board has flags over 7. */
     flash[offsetof(struct rivertosku_board, memory.notes.flags)] ^= 0x10;
     memcpy(&back, flash, sizeof back);
-    printf("from flash: %u, %s\n", (unsigned)rivertosku_judge(back), rivertosku_same(back, *board) ? "the same" : "another");
+    printf("from flash: %u, compared %u\n", (unsigned)rivertosku_judge(back), (unsigned)rivertosku_same(back, *board));
 }
 
 int main(void)

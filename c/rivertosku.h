@@ -1,5 +1,6 @@
 /* The proved receiver of a stepper board, and the optimiser's end of its link. `rt staticlib board` and `rt staticlib optimiser` build them
-   into target/staticlib/libboard.a and liboptimiser.a, for x86-64; a program links the one it needs, or both. Needs C11 or C++11. */
+   into target/staticlib/libboard.a and liboptimiser.a, and `rt staticlib same` the comparison of two boards into libsame.a, for x86-64; a
+   program links what it needs of them. Needs C11 or C++11. */
 #ifndef RIVERTOSKU_H
 #define RIVERTOSKU_H
 
@@ -12,7 +13,6 @@
 #endif
 
 #include <assert.h>
-#include <stdbool.h>
 #include <stddef.h>
 #include <stdint.h>
 
@@ -26,6 +26,7 @@ extern "C" {
 #define RIVERTOSKU_GLUE(name, number) name##number
 #define RIVERTOSKU_NUMBERED(name, number) RIVERTOSKU_GLUE(name, number)
 #define RIVERTOSKU_BOARD_LAYOUT RIVERTOSKU_NUMBERED(rivertosku_board_layout_, RIVERTOSKU_LAYOUT)
+#define RIVERTOSKU_SAME_LAYOUT RIVERTOSKU_NUMBERED(rivertosku_same_layout_, RIVERTOSKU_LAYOUT)
 #define RIVERTOSKU_HOST_LAYOUT RIVERTOSKU_NUMBERED(rivertosku_host_layout_, RIVERTOSKU_LAYOUT)
 
 /* The longest frame of a request, which is also the longest answer. */
@@ -211,8 +212,12 @@ struct rivertosku_board rivertosku_fresh(void);
 uint8_t rivertosku_judge(struct rivertosku_board board);
 
 /* Whether two boards are the same: stamp, notes, unfinished bytes, and each block as a get sends it, so minus zero is not zero. Spare bytes
-   and gaps play no part. Any two boards may be asked, sound or not. */
-bool rivertosku_same(struct rivertosku_board a, struct rivertosku_board b);
+   and gaps play no part. RIVERTOSKU_SAME, RIVERTOSKU_ANOTHER, or RIVERTOSKU_UNSOUND where one of the two is. In libsame.a. Tied. */
+enum {
+    RIVERTOSKU_SAME = 0,
+    RIVERTOSKU_ANOTHER = 1
+};
+uint8_t rivertosku_same(struct rivertosku_board a, struct rivertosku_board b);
 
 /* One call: a piece of bytes that share a stamp in milliseconds, and room for the replies. An accepted call stops when the piece ends,
    behind an order, or before a byte whose reply does not fit; of a piece that is not empty it takes at least one byte. Piece and reply
@@ -232,6 +237,8 @@ struct rivertosku_report rivertosku_report_clock(struct rivertosku_board board, 
 uint32_t RIVERTOSKU_BOARD_LAYOUT(void);
 #define rivertosku_fresh() ((void)RIVERTOSKU_BOARD_LAYOUT(), rivertosku_fresh())
 #define rivertosku_judge(...) ((void)RIVERTOSKU_BOARD_LAYOUT(), rivertosku_judge(__VA_ARGS__))
+uint32_t RIVERTOSKU_SAME_LAYOUT(void);
+#define rivertosku_same(...) ((void)RIVERTOSKU_SAME_LAYOUT(), rivertosku_same(__VA_ARGS__))
 
 /* The optimiser's end, in liboptimiser.a. */
 

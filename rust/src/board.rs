@@ -70,11 +70,12 @@ struct Report {
 const _: () = assert!(usize::BITS == 64);
 
 extern "C" {
-    // A library whose structs are laid out in another way has another number in this name, and does not link.
+    // A library whose structs are laid out in another way has another number in these names, and does not link.
     fn rivertosku_board_layout_1() -> u32;
     fn rivertosku_fresh() -> Parts;
     fn rivertosku_judge(board: Parts) -> u8;
-    fn rivertosku_same(a: Parts, b: Parts) -> bool;
+    fn rivertosku_same_layout_1() -> u32;
+    fn rivertosku_same(a: Parts, b: Parts) -> u8;
     fn rivertosku_receive(board: Parts, piece: *const u8, piece_len: usize, stamp: u32, reply: *mut u8, reply_len: usize) -> Answer;
     fn rivertosku_report_clock(board: Parts, now: u32) -> Report;
 }
@@ -162,10 +163,19 @@ impl Board {
     }
 
     /// Whether two boards are the same: stamp, notes, unfinished bytes, and each block as a get sends it, so minus zero is not zero. Spare
-    /// bytes play no part, which `==` compares too.
-    pub fn same(&self, other: &Board) -> bool {
+    /// bytes play no part, which `==` compares too. `None` where one of the two is unsound.
+    pub fn same(&self, other: &Board) -> Option<bool> {
         // SAFETY: no memory is handed over; any board values are allowed.
-        unsafe { rivertosku_same(self.0, other.0) }
+        let number = unsafe {
+            rivertosku_same_layout_1();
+            rivertosku_same(self.0, other.0)
+        };
+        match number {
+            0 => Some(true),
+            1 => Some(false),
+            3 => None,
+            n => panic!("the library answered {n}"),
+        }
     }
 
     /// One call: a piece of bytes that share a stamp in milliseconds, and room for the replies. A refused call changes nothing.
@@ -257,7 +267,7 @@ mod tests {
     fn same_and_judged() {
         let mut board = Board::fresh();
         board.report_clock(7);
-        assert!(board.same(&Board::fresh()));
+        assert_eq!(board.same(&Board::fresh()), Some(true));
         let _ = board.receive(b"spid", 1000, &mut [0; ROOM]);
         assert_eq!(board.judge(), Number::Accepted);
         let changed = |change: &dyn Fn(&mut Parts)| {
@@ -267,7 +277,7 @@ mod tests {
         };
         // A spare byte plays no part; the bytes before it do.
         let spare = changed(&|parts| parts.held[4] = 1);
-        assert!(spare != board && spare.same(&board));
+        assert!(spare != board && spare.same(&board) == Some(true));
         let others: [&dyn Fn(&mut Parts); 14] = [
             &|parts| parts.memory.settings.mov.u_antiplay_speed = 1,
             &|parts| parts.memory.settings.eng.antiplay = -1,
@@ -279,20 +289,28 @@ mod tests {
             &|parts| parts.memory.notes.flags = 1,
             &|parts| parts.memory.notes.block = 1,
             &|parts| parts.memory.notes.field = 1 << 32,
-            &|parts| parts.held[3] = b's',
             &|parts| parts.count = 5,
+            &|parts| (parts.held[0], parts.count) = (b't', 3),
             &|parts| parts.stamp = 1000 + (1 << 31),
-            &|parts| (parts.held, parts.count) = ([0; FRAME], 0),
+            &|parts| parts.count = 0,
         ];
         for change in others {
             let other = changed(change);
-            assert!(!other.same(&board) && !board.same(&other) && other.same(&other), "{other:?}");
+            let said = [other.same(&board), board.same(&other), other.same(&other)];
+            assert_eq!(said, [Some(false), Some(false), Some(true)], "{other:?}");
         }
-        // Sound and unsound ones can be asked. A count past the bytes held counts them all.
-        let unsound = [changed(&|parts| parts.count = FRAME), changed(&|parts| parts.count = usize::MAX)];
-        assert!(unsound[0].same(&unsound[1]));
-        assert!(unsound.iter().all(|board| board.judge() == Number::Unsound));
-        assert_eq!(changed(&|parts| parts.memory.notes.flags = 8).judge(), Number::Unsound);
+        // Another name that is no set's, flags over 7, counts past a unit and past the bytes held: unsound, and so is the comparison.
+        let unsound: [&dyn Fn(&mut Parts); 4] = [
+            &|parts| parts.held[3] = b's',
+            &|parts| parts.memory.notes.flags = 8,
+            &|parts| parts.count = FRAME,
+            &|parts| parts.count = usize::MAX,
+        ];
+        for change in unsound {
+            let other = changed(change);
+            assert_eq!(other.judge(), Number::Unsound);
+            assert_eq!([other.same(&board), board.same(&other), other.same(&other)], [None; 3], "{other:?}");
+        }
     }
 
     /// A null pointer is fine where the length is 0.

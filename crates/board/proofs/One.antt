@@ -6,7 +6,6 @@ use Rattle.board.proofs.rivertosku_fresh.Reads as rivertosku-fresh
 use Rattle.board.proofs.rivertosku_receive.Reads as rivertosku-receive
 use Rattle.board.proofs.rivertosku_report_clock.Reads as rivertosku-report-clock
 use Rattle.board.proofs.rivertosku_judge.Reads as rivertosku-judge
-use Rattle.board.proofs.rivertosku_same.Reads as rivertosku-same
 
 pub rivertosku-board-layout-one : Leaves rivertosku-board-layout.Post (λ κs r s. r)
 rivertosku-board-layout-one κs a r r' s s' p q = p ∙ sym q
@@ -26,6 +25,3 @@ rivertosku-report-clock-one κs a r r' s s' p q = p ∙ sym q
 
 pub rivertosku-judge-one : Leaves rivertosku-judge.Post (λ κs r s. r)
 rivertosku-judge-one κs a r r' s s' p q = p ∙ sym q
-
-pub rivertosku-same-one : Leaves rivertosku-same.Post (λ κs r s. r)
-rivertosku-same-one κs a r r' s s' p q = p ∙ sym q

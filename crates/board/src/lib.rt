@@ -8,7 +8,6 @@ ghost use Rattle.unit.specs.Protocol.{protocol, freshState};
 ghost use Rattle.state.specs.State.{stateOf, boardOf};
 ghost use Rattle.state.specs.Sound.{refusalOf};
 ghost use Rattle.clock.specs.Report.{reported};
-ghost use Rattle.same.specs.Same.{sameBoards};
 ghost use Rattle.board.specs.Answer.{Answered};
 
 // What a call answers, flat.
@@ -75,12 +74,4 @@ pub extern "C" fn rivertosku_judge(board: Board) -> u8
 {
     let verdict = state::judge(board);
     verdict.number
-}
-
-// Whether two boards are the same: spare bytes and gaps play no part.
-#[no_mangle]
-pub extern "C" fn rivertosku_same(a: Board, b: Board) -> bool
-    ensures { λ r. ⌜ r ≡ sameBoards a b ⌝ }
-{
-    same::boards(a, b)
 }

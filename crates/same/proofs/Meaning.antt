@@ -11,13 +11,20 @@ use Rattle.rule.specs.Calls.{call}
 use Rattle.sheet.specs.Sheet.{Row, movRow, engRow, pwrRow, edsRow, homRow, brkRow, pidRow}
 use Rattle.sheet.specs.Rows.{numbersIn, dataOf, rowAt}
 use Rattle.sheet.proofs.Codec.{Codec, decoded}
-use Rattle.mov.proofs.Codec.{MovHeld, mov-codec}
-use Rattle.eng.proofs.Codec.{EngHeld, eng-codec}
-use Rattle.pwr.proofs.Codec.{PwrHeld, pwr-codec}
-use Rattle.eds.proofs.Codec.{EdsHeld, eds-codec}
-use Rattle.hom.proofs.Codec.{HomHeld, hom-codec}
-use Rattle.brk.proofs.Codec.{BrkHeld, brk-codec}
-use Rattle.pid.proofs.Codec.{PidHeld, pid-codec}
+use Rattle.mov.specs.Mov.{MovHeld}
+use Rattle.mov.proofs.Codec.{mov-codec}
+use Rattle.eng.specs.Eng.{EngHeld}
+use Rattle.eng.proofs.Codec.{eng-codec}
+use Rattle.pwr.specs.Pwr.{PwrHeld}
+use Rattle.pwr.proofs.Codec.{pwr-codec}
+use Rattle.eds.specs.Eds.{EdsHeld}
+use Rattle.eds.proofs.Codec.{eds-codec}
+use Rattle.hom.specs.Hom.{HomHeld}
+use Rattle.hom.proofs.Codec.{hom-codec}
+use Rattle.brk.specs.Brk.{BrkHeld}
+use Rattle.brk.proofs.Codec.{brk-codec}
+use Rattle.pid.specs.Pid.{PidHeld}
+use Rattle.pid.proofs.Codec.{pid-codec}
 use Rattle.settings.specs.Settings.{numbersAt, dataAt}
 use Rattle.settings.specs.declared.Settings.{Settings}
 use Rattle.unit.specs.Protocol.{protocol, soundState}

@@ -1,7 +1,11 @@
--- The public function's promise leaves one answer. Assumes nothing.
+-- Each public function's promise leaves one answer. Assumes nothing.
 use mathlib.Core.Path.{sym, _∙_}
 use Rattle.promise.specs.Promise.{Leaves}
-use Rattle.same.proofs.boards.Reads as boards
+use Rattle.same.proofs.rivertosku_same.Reads as rivertosku-same
+use Rattle.same.proofs.rivertosku_same_layout_1.Reads as rivertosku-same-layout
 
-pub boards-one : Leaves boards.Post (λ κs r s. r)
-boards-one κs a r r' s s' p q = p ∙ sym q
+pub rivertosku-same-one : Leaves rivertosku-same.Post (λ κs r s. r)
+rivertosku-same-one κs a r r' s s' p q = p ∙ sym q
+
+pub rivertosku-same-layout-one : Leaves rivertosku-same-layout.Post (λ κs r s. r)
+rivertosku-same-layout-one κs a r r' s s' p q = p ∙ sym q

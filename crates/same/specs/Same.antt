@@ -9,6 +9,7 @@ use Rattle.settings.specs.declared.Settings.{Settings}
 use Rattle.unit.specs.declared.Notes.{Notes}
 use Rattle.unit.specs.declared.Memory.{Memory}
 use Rattle.state.specs.State.{stateOf}
+use Rattle.state.specs.Sound.{refusalOf}
 use Rattle.state.specs.declared.Board.{Board}
 
 -- two lists of bytes are one
@@ -43,3 +44,8 @@ sameStates s t =
 -- TWO BOARDS ARE THE SAME. Bytes behind the unfinished ones, and the gaps of a struct, play no part
 abbrev pub sameBoards : Board → Board → Bool
 sameBoards a b = sameStates (stateOf a) (stateOf b)
+
+-- THE ANSWER: "Any other public entry that takes a board state, now or later, answers 3 in the same way" (01, "One call"); else 0 for two boards that
+-- are the same, 1 for others
+abbrev pub comparedAs : Board → Board → ℕ
+comparedAs a b = cond (eqb (refusalOf a) 0) (cond (eqb (refusalOf b) 0) (cond (sameBoards a b) 0 1) (refusalOf b)) (refusalOf a)

@@ -1,4 +1,5 @@
-// Whether two boards are the same: in what they keep, and not in the bytes of their structs, whose gaps are anything.
+// Whether two boards are the same: in what they keep, and not in the bytes of their structs, whose gaps are anything. For C and Rust, in an archive of
+// its own: with a second caller of what a call needs, the compiler would make other code of the call.
 use settings::Settings;
 use state::Board;
 use unit::Notes;
@@ -7,7 +8,7 @@ ghost use Prim.Native.Nat.{min};
 ghost use lib.ListN.{length, take};
 ghost use Rattle.sheet.specs.Lengths.{longestFrame};
 ghost use Rattle.settings.specs.Settings.{dataAt};
-ghost use Rattle.same.specs.Same.{sameBytes, sameSettings, sameNotes, sameBoards};
+ghost use Rattle.same.specs.Same.{sameBytes, sameSettings, sameNotes, sameBoards, comparedAs};
 
 // Whether two parts are the same bytes.
 fn bytes(a: &[u8], b: &[u8]) -> bool
@@ -81,7 +82,7 @@ fn unfinished(x: [u8; sheet::FRAME], m: usize, y: [u8; sheet::FRAME], n: usize) 
 }
 
 // Whether two boards are the same: last stamp, notes, unfinished bytes, and every block as a get sends it.
-pub fn boards(a: Board, b: Board) -> bool
+fn boards(a: Board, b: Board) -> bool
     ensures { λ r. ⌜ r ≡ sameBoards a b ⌝ }
 {
     if a.stamp != b.stamp {
@@ -102,4 +103,31 @@ pub fn boards(a: Board, b: Board) -> bool
     let s = x.settings;
     let t = y.settings;
     settings(s, t)
+}
+
+// 3 where one of them is not sound, else 0 where two boards are the same, and 1 where they are not.
+#[no_mangle]
+pub extern "C" fn rivertosku_same(a: Board, b: Board) -> u8
+    ensures { λ r. ⌜ r ≡ comparedAs a b ⌝ }
+{
+    let one = state::judge(a);
+    if one.number != 0 {
+        return one.number;
+    }
+    let two = state::judge(b);
+    if two.number != 0 {
+        return two.number;
+    }
+    if boards(a, b) {
+        return 0;
+    }
+    1
+}
+
+// The number of the layout of the structs that are handed over, in the name too, as the board's functions have it.
+#[no_mangle]
+pub extern "C" fn rivertosku_same_layout_1() -> u32
+    ensures { λ r. ⌜ r ≡ 1 ⌝ }
+{
+    1
 }
