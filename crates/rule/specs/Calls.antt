@@ -20,7 +20,7 @@ ifNone [] x y = x
 ifNone (a ∷ l) x y = y
 
 module _ {O M : Type 0} where
-  -- "Taken, written, order" are "0, 0, 0" and the state is "unchanged": a refused call, or one that takes no byte
+  -- a refused call, or one that takes no byte: nothing is taken, written or ordered, and the state is "unchanged"
   abbrev pub none : ℕ → State M → Called O M
   none n s = record { number = n; taken = 0; said = quiet s }
 
