@@ -16,11 +16,11 @@ use Rattle.rule.proofs.Steps.{steps-append, steps-is-whole}
 use Rattle.rule.proofs.TrueTime.{true-time}
 use Rattle.rule.proofs.Dropped.{true-drops}
 use Rattle.names.specs.declared.Order.{Order}
-use Rattle.names.proofs.Need.{need-some, need-law}
+use Rattle.names.proofs.Need.{need-law}
 use Rattle.unit.specs.Unit.{Event, clock, act}
 use Rattle.unit.specs.Protocol.{protocol, soundState}
 use Rattle.unit.specs.declared.Memory.{Memory}
-use Rattle.unit.proofs.Sound.{sound-memory, sound-from}
+use Rattle.unit.proofs.Sound.{none-begun, sound-memory, sound-from}
 use Rattle.clock.specs.Clock.{overdue, dropped, clocked}
 
 -- THE RULE'S EVENT: "it is dropped; the last stamp stays", without a word
@@ -37,7 +37,7 @@ clock-step s now = by (s .line .unfinished) (late now (s .line .last)) refl
 -- a sound state stays sound
 pub clock-sound : (s : State Memory) (now : ℕ) → soundState s ≡ true → soundState (clocked s now) ≡ true
 clock-sound s now h =
-    either (λ (x : State Memory). soundState x ≡ true) (overdue s now) (dropped s) s (sound-from (dropped s) (need-some []) (sound-memory s h)) h
+    either (λ (x : State Memory). soundState x ≡ true) (overdue s now) (dropped s) s (sound-from (dropped s) none-begun (sound-memory s h)) h
 
 -- ---- in a run: the bytes and reports q, then a report, then r
 
