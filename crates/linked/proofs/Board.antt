@@ -86,9 +86,9 @@ offered-is (next b items rest run x z one more e) =
     let behind = offered-is more in
     let y = first .0 in
     let w = behind .0 in
-    let said : then x (λ _. z) ≡ numbered (then y (λ _. w)) =
-    (λ i. then (first .2 i) (λ _. behind .2 i)) ∙ (λ i. record { reply = y .reply ++ w .reply; orders = sym (map-append orderNumber (y .orders) (w .orders)) i; next = w .next }) in
-    (then y (λ _. w), next b items rest run y w (first .1) (subst (λ (c : Board). runs.Offered c rest w) (ap (λ (q : Said ℕ Board). q .next) (first .2)) (behind .1)) e, said)
+    let said : then x z ≡ numbered (then y w) =
+    (λ i. then (first .2 i) (behind .2 i)) ∙ (λ i. record { reply = y .reply ++ w .reply; orders = sym (map-append orderNumber (y .orders) (w .orders)) i; next = w .next }) in
+    (then y w, next b items rest run y w (first .1) (subst (λ (c : Board). runs.Offered c rest w) (ap (λ (q : Said ℕ Board). q .next) (first .2)) (behind .1)) e, said)
 
 -- DEMAND 3, of what C and Rust link: "Once all is taken, the replies joined, the orders in sequence, the settings, flags, last refused field, unfinished
 -- bytes and last stamp are those that sheet 01's rule gives for the whole run at once."
