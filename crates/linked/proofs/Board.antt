@@ -15,6 +15,7 @@ use Rattle.unit.specs.Unit.{Event, freshMemory}
 use Rattle.unit.specs.Protocol.{protocol}
 use Rattle.state.specs.State.{stateOf}
 use Rattle.state.specs.Sound.{refusalOf}
+use Rattle.state.specs.Returned.{Returned}
 use Rattle.state.specs.declared.Board.{Board}
 use Rattle.state.specs.declared.Call.{Call}
 use Rattle.state.proofs.fresh.Reads as fresh
@@ -29,7 +30,7 @@ use Rattle.demands.specs.Runs.{onBoard, done, next}
 use Rattle.demands.proofs.Calls.{promise, refTo, receive-some}
 use Rattle.demands.proofs.Reports.{report-promise, report-some}
 use Rattle.demands.proofs.Runs.{from-fresh}
-use Rattle.board.specs.Answer.{flat, Answered}
+use Rattle.board.specs.Answer.{flat}
 use Rattle.board.specs.declared.Answer.{Answer}
 use Rattle.linked.specs.Board.{Starts, Receives, Hears, allowed, saidBy, numbered, Step, called, told, Offered}
 
@@ -37,7 +38,8 @@ use Rattle.linked.specs.Board.{Starts, Receives, Hears, allowed, saidBy,
 
 module _ {b : Board} {t : ℕ} {p before after : List ℕ} where
   -- what it says
-  receives-promise : {r : Answer} → Receives b t p before r after → Answered (call protocol (refusalOf b) (stateOf b) t (length before) p) b before r after
+  receives-promise : {r : Answer} → Receives b t p before r after
+      → Returned (λ c. flat (answer b c)) (call protocol (refusalOf b) (stateOf b) t (length before) p) before r after
   receives-promise (allowed κs a s got e f g h k) = rw (← e, ← f, ← g, ← h, ← k) got
 
   pub receives : {r : Answer} → Receives b t p before r after → (c : Call) × Answers b t p before c after × (r ≡ flat c)
