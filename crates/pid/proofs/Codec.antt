@@ -6,8 +6,7 @@ use lib.Dec.{lit<}
 use lib.ListN.{getD}
 use lib.Ieee.{binary32}
 use lib.Ieee.Bits.{ofBits-toBits, ofBits-fits, toBits-lt}
-use Rattle.wire.specs.Layout.{Room}
-use Rattle.wire.proofs.Laid.{room-listed, room-at}
+use Rattle.wire.proofs.Laid.{Room, room-listed, room-at}
 use Rattle.ranges.proofs.Tests.{all-of}
 use Rattle.wire.proofs.Values.{bits-back, bits-judged}
 use Rattle.sheet.specs.Sheet.{pidRow}
