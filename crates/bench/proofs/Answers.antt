@@ -8,11 +8,12 @@ use lib.Seq.{length-take-le}
 use Rattle.rule.specs.Calls.{Called}
 use Rattle.names.specs.declared.Order.{Order}
 use Rattle.unit.specs.declared.Memory.{Memory}
+use Rattle.state.specs.Returned.{Returned}
 use Rattle.state.specs.declared.Board.{Board}
 use Rattle.state.specs.declared.Call.{Call}
-use Rattle.receiver.specs.Receive.{Received}
+use Rattle.receiver.specs.Receive.{answer}
 
-module _ {c : Called Order Memory} {b : Board} {before after : List ℕ} {r : Call} (got : Received c b before r after) where
+module _ (b : Board) {c : Called Order Memory} {before after : List ℕ} {r : Call} (got : Returned (answer b) c before r after) where
   pub written-fits : r .written ≤ length after
   written-fits =
       rw (ap (λ (y : Call). y .written) (got .result), got .reply, length-append) (omega arith)

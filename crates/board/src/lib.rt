@@ -7,8 +7,10 @@ ghost use Rattle.rule.specs.Calls.{call};
 ghost use Rattle.unit.specs.Protocol.{protocol, freshState};
 ghost use Rattle.state.specs.State.{stateOf, boardOf};
 ghost use Rattle.state.specs.Sound.{refusalOf};
+ghost use Rattle.state.specs.Returned.{Returned};
 ghost use Rattle.clock.specs.Report.{reported};
-ghost use Rattle.board.specs.Answer.{Answered};
+ghost use Rattle.receiver.specs.Receive.{answer};
+ghost use Rattle.board.specs.Answer.{flat};
 
 // What a call answers, flat.
 #[repr(C)]
@@ -45,7 +47,7 @@ pub extern "C" fn rivertosku_receive(
     stamp: u32,
     reply: &mut [u8],
 ) -> Answer
-    ensures { λ r. ⌜ Answered (call protocol (refusalOf board) (stateOf board) stamp (length (now (reply .entry))) (now (piece .entry))) board (now (reply .entry)) r (now (reply .exit)) ⌝ }
+    ensures { λ r. ⌜ Returned (λ c. flat (answer board c)) (call protocol (refusalOf board) (stateOf board) stamp (length (now (reply .entry))) (now (piece .entry))) (now (reply .entry)) r (now (reply .exit)) ⌝ }
 {
     let call = receiver::receive(board, piece, stamp, reply);
     let order = call.order;

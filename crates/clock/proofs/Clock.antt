@@ -16,11 +16,11 @@ use Rattle.rule.proofs.Steps.{steps-append, steps-is-whole}
 use Rattle.rule.proofs.TrueTime.{true-time}
 use Rattle.rule.proofs.Dropped.{true-drops}
 use Rattle.names.specs.declared.Order.{Order}
-use Rattle.names.proofs.Need.{need-some, need-law}
+use Rattle.names.proofs.Need.{need-law}
 use Rattle.unit.specs.Unit.{Event, clock, act}
 use Rattle.unit.specs.Protocol.{protocol, soundState}
 use Rattle.unit.specs.declared.Memory.{Memory}
-use Rattle.unit.proofs.Sound.{sound-memory, sound-from}
+use Rattle.unit.proofs.Sound.{none-begun, sound-memory, sound-from}
 use Rattle.clock.specs.Clock.{overdue, dropped, clocked}
 
 -- THE RULE'S EVENT: "it is dropped; the last stamp stays", without a word
@@ -37,18 +37,22 @@ clock-step s now = by (s .line .unfinished) (late now (s .line .last)) refl
 -- a sound state stays sound
 pub clock-sound : (s : State Memory) (now : ℕ) → soundState s ≡ true → soundState (clocked s now) ≡ true
 clock-sound s now h =
-    either (λ (x : State Memory). soundState x ≡ true) (overdue s now) (dropped s) s (sound-from (dropped s) (need-some []) (sound-memory s h)) h
+    either (λ (x : State Memory). soundState x ≡ true) (overdue s now) (dropped s) s (sound-from (dropped s) none-begun (sound-memory s h)) h
 
 -- ---- in a run: the bytes and reports q, then a report, then r
 
 module _ (m : Memory) (last now : ℕ) (q r : List (Item Event)) where
   -- what q left is reported to, and the run goes on
-  pub run-clock : wholeRun protocol m last (q ++ event (clock now) ∷ r) ≡ then (wholeRun protocol m last q) (λ s. steps protocol (clocked s now) r)
+  pub run-clock : wholeRun protocol m last (q ++ event (clock now) ∷ r)
+      ≡ then (wholeRun protocol m last q) (steps protocol (clocked (wholeRun protocol m last q .next) now) r)
   unfolding steps
   run-clock =
       let start : State Memory = stateAt m [] last in
       sym (steps-is-whole protocol need-law m last (q ++ event (clock now) ∷ r)) ∙ steps-append protocol q (event (clock now) ∷ r) start
-      ∙ (λ i. then (steps-is-whole protocol need-law m last q i) (λ s. then (clock-step s now i) (λ c. steps protocol c r)))
+      ∙ (λ i.
+      let a = steps-is-whole protocol need-law m last q i in
+      let b = clock-step (a .next) now i in
+      then a (then b (steps protocol (b .next) r)))
 
   -- A REPORT INSIDE A UNIT AT A WAIT OF AT MOST 400, OR WITH NOTHING UNFINISHED, IS TRANSPARENT
   pub transparent : overdue (wholeRun protocol m last q .next) now ≡ false
@@ -56,7 +60,7 @@ module _ (m : Memory) (last now : ℕ) (q r : List (Item Event)) where
   transparent e =
       let start : State Memory = stateAt m [] last in
       run-clock ∙ rw e
-      (ap (λ (a : Said Order (State Memory)). then a (λ s. steps protocol s r)) (sym (steps-is-whole protocol need-law m last q))
+      (ap (λ (a : Said Order (State Memory)). then a (steps protocol (a .next) r)) (sym (steps-is-whole protocol need-law m last q))
       ∙ sym (steps-append protocol q r start) ∙ steps-is-whole protocol need-law m last (q ++ r))
 
 -- any number of reports, none of them overdue where it comes: the run says and leaves what its bytes alone do
@@ -75,9 +79,9 @@ unfolding steps
 none-overdue [] s h = refl
 none-overdue (byte t b ∷ r) s h =
     let a = step protocol s (byte t b) in
-    ap (λ (rest : Said Order (State Memory)). then a (λ _. rest)) (none-overdue r (a .next) h)
+    ap (then a) (none-overdue r (a .next) h)
 none-overdue (event (clock now) ∷ r) s h =
-    ap (λ (a : Said Order (State Memory)). then a (λ c. steps protocol c r)) (clock-step s now) ∙ rw (h .0) (none-overdue r s (h .1))
+    ap (λ (a : Said Order (State Memory)). then a (steps protocol (a .next) r)) (clock-step s now) ∙ rw (h .0) (none-overdue r s (h .1))
 
 -- ---- WHY THE TIME IS REPORTED
 -- A run in true time whose main loop does its part: however often the counter came round

@@ -4,14 +4,15 @@ use mathlib.Core.List.{[]}
 use Prim.Native.Nat.{ℕ}
 use lib.Dec.{ltb}
 use lib.ListN.{length}
-use Rattle.rule.specs.Run.{late}
 use Rattle.rule.specs.Rule.{State}
 use Rattle.rule.specs.Loop.{stateAt}
+use Rattle.unit.specs.Unit.{clock}
+use Rattle.unit.specs.Protocol.{cutBy}
 use Rattle.unit.specs.declared.Memory.{Memory}
 
 -- "If something is unfinished and the wait since the last byte exceeds 400,
 abbrev pub overdue : State Memory → ℕ → Bool
-overdue s now = cond (ltb 0 (length (s .line .unfinished))) (late now (s .line .last)) false
+overdue s now = cond (ltb 0 (length (s .line .unfinished))) (cutBy (s .line .last) (clock now)) false
 
 -- it is dropped; the last stamp stays."
 abbrev pub dropped : State Memory → State Memory

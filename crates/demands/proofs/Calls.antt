@@ -27,9 +27,10 @@ use Rattle.unit.specs.declared.Memory.{Memory}
 use Rattle.unit.proofs.Sound.{call-sound}
 use Rattle.state.specs.State.{stateOf, boardOf}
 use Rattle.state.specs.Sound.{soundBoard, refusalOf}
+use Rattle.state.specs.Returned.{Returned}
 use Rattle.state.specs.declared.Board.{Board}
 use Rattle.state.specs.declared.Call.{Call}
-use Rattle.receiver.specs.Receive.{answer, Received}
+use Rattle.receiver.specs.Receive.{answer}
 use Rattle.receiver.proofs.Calls.{call-order, call-state, accept-some}
 use Rattle.demands.specs.Calls.{Answers, allowed, Untouched, Cause, ended, ordered, full}
 
@@ -37,7 +38,7 @@ use Rattle.demands.specs.Calls.{Answers, allowed, Untouched, Cause, ende
 
 -- what it says
 pub promise : {b : Board} {t : ℕ} {p before after : List ℕ} {r : Call} → Answers b t p before r after
-    → Received (call protocol (refusalOf b) (stateOf b) t (length before) p) b before r after
+    → Returned (answer b) (call protocol (refusalOf b) (stateOf b) t (length before) p) before r after
 promise (allowed κs a s got e f g h k) = rw (← e, ← f, ← g, ← h, ← k) got
 
 -- "that promise leaves one possible answer: number, state and each byte of the reply buffer, refusals too"

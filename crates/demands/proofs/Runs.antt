@@ -80,7 +80,7 @@ module _ {b : Board} {now : ℕ} {r : Report} (got : Reports b now r) where
       by : (y : Bool) → eqb (r .number) 0 ≡ y → inState (quiet (r .board)) ≡ steps protocol (stateOf b) (cond y (event (clock now) ∷ []) [])
       by true e =
           let n = ap stateOf (report-accepted got (eqb-true (r .number) 0 e)) ∙ clocked-state b now in
-          ap quiet n ∙ sym (ap (λ (a : Said Order (State Memory)). then a (λ k. quiet k)) (clock-step (stateOf b) now))
+          ap quiet n ∙ sym (ap (λ (a : Said Order (State Memory)). then a (quiet (a .next))) (clock-step (stateOf b) now))
       by false e = ap (λ (z : Board). quiet (stateOf z)) (report-refused got (eqb-false (r .number) 0 e))
 
 step-steps : {b : Board} {items : List (Item Event)} {y : Said Order Board} → Step b items y → inState y ≡ steps protocol (stateOf b) items
@@ -94,7 +94,7 @@ offered-state (done b) = refl
 offered-state (next b items rest run y x one more e) =
     let first = step-steps one in
     let behind = offered-state more ∙ ap (λ (z : Said Order (State Memory)). steps protocol (z .next) rest) first in
-    (λ i. then (first i) (λ _. behind i)) ∙ sym (steps-append protocol items rest (stateOf b)) ∙ ap (steps protocol (stateOf b)) (sym e)
+    (λ i. then (first i) (behind i)) ∙ sym (steps-append protocol items rest (stateOf b)) ∙ ap (steps protocol (stateOf b)) (sym e)
 
 -- ---- spare bytes that are zero stay so
 
@@ -235,6 +235,6 @@ offerable (event (clock now) ∷ run) b h =
 -- a call that stops, then the time, then the untaken rest of its piece: offered as they came, one cutting of the run that has them in that order
 pub report-between : (b : Board) (t now : ℕ) (p before after : List ℕ) (r : Call) (q : Report) (run : List (Item Event)) (x : Said Order Board)
     → Answers b t p before r after → Reports (r .board) now q → Offered (q .board) (at t (drop (r .taken) p) ++ run) x
-    → Offered b (at t (take (r .taken) p) ++ (heard (q .number) (clock now) ++ (at t (drop (r .taken) p) ++ run))) (then (saidBy r after) (λ _. then (quiet (q .board)) (λ _. x)))
+    → Offered b (at t (take (r .taken) p) ++ (heard (q .number) (clock now) ++ (at t (drop (r .taken) p) ++ run))) (then (saidBy r after) (then (quiet (q .board)) x))
 report-between b t now p before after r q run x got report h =
     next b _ _ _ _ _ (called got) (next (r .board) _ (at t (drop (r .taken) p) ++ run) _ _ x (told report) h refl) refl

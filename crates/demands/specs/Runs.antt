@@ -46,7 +46,7 @@ pub data Step : Board → List (Item Event) → Said Order Board → Type 0 wher
 pub data OfferedBy {O : Type 0} (S : Board → List (Item Event) → Said O Board → Type 0) : Board → List (Item Event) → Said O Board → Type 0 where
   done : (b : Board) → OfferedBy S b [] (quiet b)
   next : (b : Board) (items rest run : List (Item Event)) (y x : Said O Board) → S b items y → OfferedBy S (y .next) rest x → run ≡ items ++ rest
-      → OfferedBy S b run (then y (λ _. x))
+      → OfferedBy S b run (then y x)
 
 -- by calls of `receive` and reports
 abbrev pub Offered : Board → List (Item Event) → Said Order Board → Type 0

@@ -40,4 +40,4 @@ pub data Worked (room : ℕ → ℕ) : ℕ → Board → List Piece → ℕ → 
   call : {k n : ℕ} {b : Board} {x : Said Order Board} {before after : List ℕ} {r : Call} (t c : ℕ) (p : List ℕ) (qs : List Piece)
       → length before ≡ room k → Answers b t (c ∷ p) before r after
       → Worked room (suc k) (r .board) (record { stamp = t; bytes = drop (r .taken) (c ∷ p) } ∷ qs) n x
-      → Worked room k b (record { stamp = t; bytes = c ∷ p } ∷ qs) n (then (saidBy r after) (λ _. x))
+      → Worked room k b (record { stamp = t; bytes = c ∷ p } ∷ qs) n (then (saidBy r after) x)

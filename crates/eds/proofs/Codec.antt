@@ -4,10 +4,9 @@ use mathlib.Core.List.{List}
 use Prim.Native.Nat.{ℕ}
 use mir.Syntax.{w16, w32}
 use mir.ValLaws.{ofZ-fits, toZ-ofZ}
-use Rattle.wire.specs.Layout.{Room}
-use Rattle.wire.proofs.Laid.{room-listed, room-at}
+use Rattle.wire.proofs.Laid.{Room, room-listed, room-at}
 use Rattle.sheet.specs.Sheet.{edsRow}
-use Rattle.sheet.specs.Rows.{widths}
+use Rattle.sheet.specs.Rows.{widths, values}
 use Rattle.sheet.proofs.Codec.{Codec, always, signed16, signed32, held16, held32}
 use Rattle.eds.specs.declared.Eds.{Eds}
 use Rattle.eds.specs.Eds.{edsOf, edsNumbers, EdsHeld}
@@ -32,3 +31,7 @@ eds-codec =
     (λ b h. (h .borderFlags, (h .enderFlags, (ofZ-fits w32 (b .leftBorder) (h .leftBorder) .fits, (ofZ-fits w16 (b .uLeftBorder) (h .uLeftBorder) .fits, (ofZ-fits w32 (b .rightBorder) (h .rightBorder) .fits, (ofZ-fits w16 (b .uRightBorder) (h .uRightBorder) .fits, tt)))))))
     (λ b h. rw (toZ-ofZ w32 (b .leftBorder) (h .leftBorder), toZ-ofZ w16 (b .uLeftBorder) (h .uLeftBorder), toZ-ofZ w32 (b .rightBorder) (h .rightBorder), toZ-ofZ w16 (b .uRightBorder) (h .uRightBorder)))
     eds-held
+
+-- each field holds its number as its row says, unsigned, signed or float
+pub eds-values : (ns : List ℕ) → let b = edsOf ns in values (edsRow .fields) 0 ns ≡ (b .borderFlags, (b .enderFlags, (b .leftBorder, (b .uLeftBorder, (b .rightBorder, (b .uRightBorder, tt))))))
+eds-values ns = refl

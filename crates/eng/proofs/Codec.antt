@@ -4,10 +4,9 @@ use mathlib.Core.List.{List}
 use Prim.Native.Nat.{ℕ}
 use mir.Syntax.{w16}
 use mir.ValLaws.{ofZ-fits, toZ-ofZ}
-use Rattle.wire.specs.Layout.{Room}
-use Rattle.wire.proofs.Laid.{room-listed, room-at}
+use Rattle.wire.proofs.Laid.{Room, room-listed, room-at}
 use Rattle.sheet.specs.Sheet.{engRow}
-use Rattle.sheet.specs.Rows.{widths}
+use Rattle.sheet.specs.Rows.{widths, values}
 use Rattle.sheet.proofs.Codec.{Codec, always, signed16, held16}
 use Rattle.eng.specs.declared.Eng.{Eng}
 use Rattle.eng.specs.Eng.{engOf, engNumbers, EngHeld}
@@ -34,3 +33,7 @@ eng-codec =
     (λ b h. (h .nomVoltage, (h .nomCurrent, (h .nomSpeed, (h .uNomSpeed, (h .engineFlags, (ofZ-fits w16 (b .antiplay) (h .antiplay) .fits, (h .microstepMode, (h .stepsPerRev, tt)))))))))
     (λ b h. rw (toZ-ofZ w16 (b .antiplay) (h .antiplay)))
     eng-held
+
+-- each field holds its number as its row says, unsigned, signed or float
+pub eng-values : (ns : List ℕ) → let b = engOf ns in values (engRow .fields) 0 ns ≡ (b .nomVoltage, (b .nomCurrent, (b .nomSpeed, (b .uNomSpeed, (b .engineFlags, (b .antiplay, (b .microstepMode, (b .stepsPerRev, tt))))))))
+eng-values ns = refl

@@ -3,8 +3,7 @@ use mathlib.Core.Path.{_≡_, sym, ap, _∙_}
 use mathlib.Core.List.{List, [], _∷_, _++_, append-nil}
 use Prim.Native.Nat.{ℕ, _-_, _<_}
 use lib.ListN.{length, getD}
-use Rattle.wire.specs.Layout.{Room}
-use Rattle.wire.proofs.Laid.{laid-low}
+use Rattle.wire.proofs.Laid.{Room, laid-low}
 use Rattle.sheet.specs.Rows.{widths, total, numbersIn}
 use Rattle.sheet.proofs.Laws.{data-length, read-back}
 use Rattle.mov.proofs.Codec.{mov-codec}

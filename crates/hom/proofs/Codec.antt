@@ -4,10 +4,9 @@ use mathlib.Core.List.{List}
 use Prim.Native.Nat.{ℕ}
 use mir.Syntax.{w16, w32}
 use mir.ValLaws.{ofZ-fits, toZ-ofZ}
-use Rattle.wire.specs.Layout.{Room}
-use Rattle.wire.proofs.Laid.{room-listed, room-at}
+use Rattle.wire.proofs.Laid.{Room, room-listed, room-at}
 use Rattle.sheet.specs.Sheet.{homRow}
-use Rattle.sheet.specs.Rows.{widths}
+use Rattle.sheet.specs.Rows.{widths, values}
 use Rattle.sheet.proofs.Codec.{Codec, always, signed16, signed32, held16, held32}
 use Rattle.hom.specs.declared.Hom.{Hom}
 use Rattle.hom.specs.Hom.{homOf, homNumbers, HomHeld}
@@ -33,3 +32,7 @@ hom-codec =
     (λ b h. (h .fastHome, (h .uFastHome, (h .slowHome, (h .uSlowHome, (ofZ-fits w32 (b .homeDelta) (h .homeDelta) .fits, (ofZ-fits w16 (b .uHomeDelta) (h .uHomeDelta) .fits, (h .homeFlags, tt))))))))
     (λ b h. rw (toZ-ofZ w32 (b .homeDelta) (h .homeDelta), toZ-ofZ w16 (b .uHomeDelta) (h .uHomeDelta)))
     hom-held
+
+-- each field holds its number as its row says, unsigned, signed or float
+pub hom-values : (ns : List ℕ) → let b = homOf ns in values (homRow .fields) 0 ns ≡ (b .fastHome, (b .uFastHome, (b .slowHome, (b .uSlowHome, (b .homeDelta, (b .uHomeDelta, (b .homeFlags, tt)))))))
+hom-values ns = refl

@@ -28,8 +28,10 @@ use Rattle.unit.specs.Protocol.{protocol}
 use Rattle.unit.specs.declared.Memory.{Memory}
 use Rattle.unit.specs.declared.Judged.{Judged}
 use Rattle.unit.proofs.Replies.{act-kind, does-length, act-order}
+use Rattle.state.specs.State.{boardOf}
+use Rattle.state.specs.Returned.{Returned}
 use Rattle.state.specs.declared.Call.{Call}
-use Rattle.line.specs.Line.{holding, Ran}
+use Rattle.line.specs.Line.{ran}
 use Rattle.line.proofs.Replies.{Written, written-at, lent-back}
 
 -- THE INVARIANT. The whole call is c, at the stamp t: i bytes of the line are taken, all in whole units, w bytes are written, m is the memory that
@@ -57,10 +59,14 @@ module _ {line : List ℕ} {i n : ℕ} {kind : Kind} (it : Looked line i n kind)
   pub most : n ≤ longestFrame
   most = omega (arith, it .spans, span-most kind)
 
+-- the code's answer that keeps a memory and an order, with the bytes u held at the stamp t
+abbrev pub holding : Memory → Order → ℕ → List ℕ → ℕ → ℕ → Call
+holding m o t u taken written = record { number = 0; taken = taken; written = written; order = o; board = boardOf (stateAt m u t) }
+
 -- a call that is over, as the code answers it
 ran-over : (c : Called Order Memory) (k w t : ℕ) (out before after u : List ℕ) (os : List Order) (m : Memory) (o : Order) (r : Call)
     → c ≡ over k out os (stateAt m u t) → length out ≡ w → o ≡ orderOf os → after ≡ out ++ drop w before
-    → r ≡ holding m o t u k w → Ran c before r after
+    → r ≡ holding m o t u k w → Returned ran c before r after
 ran-over c k w t out before after u os m o r e l p f g = rw e (record { result = g ∙ (λ i. holding m (p i) t u k (sym l i)); reply = rw l f })
 
 pub starts : (m : Memory) (t : ℕ) (line reply : List ℕ)
@@ -82,13 +88,13 @@ module _ (c : Called Order Memory) (t : ℕ) (line reply₀ reply : List ℕ) (m
   left-long = length-drop i line
 
   -- nothing is written further
-  stops : (k : ℕ) (u : List ℕ) (r : Call) → c ≡ over k (take w reply) [] (stateAt m u t) → r ≡ holding m Nothing t u k w → Ran c reply₀ r reply
+  stops : (k : ℕ) (u : List ℕ) (r : Call) → c ≡ over k (take w reply) [] (stateAt m u t) → r ≡ holding m Nothing t u k w → Returned ran c reply₀ r reply
   stops k u r e f =
       ran-over c k w t (take w reply) reply₀ reply u [] m Nothing r e (length-take-le w reply (omega (arith, inv .room, inv .long))) refl
       (rw (← inv .rest) (sym (take-append-drop w reply))) f
 
   -- no byte is left
-  pub ends : (r : Call) → length line ≤ i → r ≡ holding m Nothing t (take (i - i) d) i w → Ran c reply₀ r reply
+  pub ends : (r : Call) → length line ≤ i → r ≡ holding m Nothing t (take (i - i) d) i w → Returned ran c reply₀ r reply
   ends r h f =
       let z : i - i ≡ 0 = omega arith in
       stops i [] r
@@ -100,7 +106,7 @@ module _ (c : Called Order Memory) (t : ℕ) (line reply₀ reply : List ℕ) (m
     span-is = ap span (sym (it .looked)) ∙ sym (it .spans)
 
     -- what is left is no whole unit
-    pub unfinished : (r : Call) → length line - i < n → r ≡ holding m Nothing t (take (length line - i) d) (length line) w → Ran c reply₀ r reply
+    pub unfinished : (r : Call) → length line - i < n → r ≡ holding m Nothing t (take (length line - i) d) (length line) w → Returned ran c reply₀ r reply
     unfinished r h f =
         let all : take (length line - i) d ≡ d = take-all (length line - i) d (omega (arith, left-long)) in
         let k : i + length d ≡ length line = omega (arith, left-long, inv .at) in
@@ -129,7 +135,7 @@ module _ (c : Called Order Memory) (t : ℕ) (line reply₀ reply : List ℕ) (m
         due-is = rw done-is (does-length m u kind) ∙ sym told
 
         -- its reply does not fit
-        pub full : (r : Call) → length reply - w < due → r ≡ holding m Nothing t (take (i + n - 1 - i) d) (i + n - 1) w → Ran c reply₀ r reply
+        pub full : (r : Call) → length reply - w < due → r ≡ holding m Nothing t (take (i + n - 1 - i) d) (i + n - 1) w → Returned ran c reply₀ r reply
         full r h f =
             let k : i + n - 1 ≡ i + (n - 1) = omega (arith, some it) in
             let l : i + n - 1 - i ≡ n - 1 = omega (arith, some it) in
@@ -185,7 +191,7 @@ module _ (c : Called Order Memory) (t : ℕ) (line reply₀ reply : List ℕ) (m
 
           -- it gave one, and the call is over
           pub gives : (orderNumber (next .order) ≡ 0 → ⊥) → (r : Call)
-              → r ≡ holding (next .memory) (next .order) t (take (i + n - (i + n)) (drop (i + n) line)) (i + n) (w + due) → Ran c reply₀ r back
+              → r ≡ holding (next .memory) (next .order) t (take (i + n - (i + n)) (drop (i + n) line)) (i + n) (w + due) → Returned ran c reply₀ r back
           gives h r f =
               let o = next .order in
               let k : i + n - (i + n) ≡ 0 = omega arith in

@@ -11,7 +11,9 @@ ghost use Rattle.rule.specs.Calls.{accept};
 ghost use Rattle.rule.specs.Loop.{stateAt};
 ghost use Rattle.sheet.specs.Lengths.{longestFrame};
 ghost use Rattle.unit.specs.Protocol.{protocol};
-ghost use Rattle.line.specs.Line.{holding, Ran};
+ghost use Rattle.state.specs.State.{boardOf};
+ghost use Rattle.state.specs.Returned.{Returned};
+ghost use Rattle.line.specs.Line.{ran};
 
 // The answer once a line has been taken up to the place to: what stands there from the place from on is held.
 fn over(
@@ -24,7 +26,7 @@ fn over(
     written: usize,
 ) -> Call
     requires { ⌜ (from ≤ to) × (to ≤ length (now line)) × (to - from ≤ longestFrame) ⌝ }
-    ensures { λ r. ⌜ r ≡ holding memory order stamp (take (to - from) (drop from (now (line .entry)))) to written ⌝ }
+    ensures { λ r. ⌜ r ≡ record { number = 0; taken = to; written = written; order = order; board = boardOf (stateAt memory (take (to - from) (drop from (now (line .entry)))) stamp) } ⌝ }
 {
     let mut held = [0u8; sheet::FRAME];
     wire::copy(&mut held, 0, &line[from..to]);
@@ -46,7 +48,7 @@ fn over(
 // Unit after unit from the front of a line, where it stands, until no whole unit is left, an order is given, or a reply does not fit. What
 // is left is held, but for the byte whose reply does not fit and what is behind it.
 pub fn take_units(memory: Memory, line: &[u8], stamp: u32, reply: &mut [u8]) -> Call
-    ensures { λ r. ⌜ Ran (accept protocol (stateAt memory [] stamp) stamp (length (now (reply .entry))) (now (line .entry))) (now (reply .entry)) r (now (reply .exit)) ⌝ }
+    ensures { λ r. ⌜ Returned ran (accept protocol (stateAt memory [] stamp) stamp (length (now (reply .entry))) (now (line .entry))) (now (reply .entry)) r (now (reply .exit)) ⌝ }
 {
     let mut cur = memory;
     let mut i = 0;

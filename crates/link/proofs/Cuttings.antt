@@ -60,9 +60,9 @@ run-answered (x ∷ xs) m t =
     let stamps = x .first ∷ x .others in
     let last = lastStamp t (spread stamps u) in
     let ih = run-answered xs n last in
-    let all : steps protocol (stateAt m [] t) (runOf (x ∷ xs)) ≡ then (with-line (record { unfinished = []; last = last }) (act m (whole u))) (λ s. steps protocol s (runOf xs)) =
+    let all : steps protocol (stateAt m [] t) (runOf (x ∷ xs)) ≡ then (with-line (record { unfinished = []; last = last }) (act m (whole u))) (steps protocol (stateAt (act m (whole u) .next) [] last) (runOf xs)) =
     steps-append protocol (spread stamps (take (x .size) (x .out))) (runOf xs) (stateAt m [] t)
-    ∙ ap (λ (y : Said Order (State Memory)). then y (λ s. steps protocol s (runOf xs)))
+    ∙ ap (λ (y : Said Order (State Memory)). then y (steps protocol (y .next) (runOf xs)))
     (ap (λ (v : List ℕ). steps protocol (stateAt m [] t) (spread stamps v)) is
     ∙ steps-in-time protocol need-law m t (x .first) (x .others) u (sym (length-is (x .written)) ∙ x .each) (x .inTime) (frame-whole q)) in
     let next : bookOf (n .settings) ≡ noted (bookOf (m .settings)) q = λ i c. done .blocks c i in

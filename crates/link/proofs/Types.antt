@@ -6,7 +6,7 @@ use native.Mathlib.Omega.{arith}
 use lib.Dec.{eqb}
 use lib.ListN.{length, take}
 use borrow.Author.Tests.{eqb-true}
-use Rattle.wire.specs.Layout.{Room}
+use Rattle.wire.proofs.Laid.{Room}
 use Rattle.wire.proofs.Numbers.{append-low}
 use Rattle.frame.specs.Frame.{dataIn}
 use Rattle.sheet.specs.Sheet.{Row}

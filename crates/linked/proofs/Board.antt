@@ -15,6 +15,7 @@ use Rattle.unit.specs.Unit.{Event, freshMemory}
 use Rattle.unit.specs.Protocol.{protocol}
 use Rattle.state.specs.State.{stateOf}
 use Rattle.state.specs.Sound.{refusalOf}
+use Rattle.state.specs.Returned.{Returned}
 use Rattle.state.specs.declared.Board.{Board}
 use Rattle.state.specs.declared.Call.{Call}
 use Rattle.clock.specs.declared.Report.{Report}
@@ -26,7 +27,7 @@ use Rattle.demands.specs.Runs.{onBoard, done, next}
 use Rattle.demands.proofs.Calls.{promise, refTo, receive-some}
 use Rattle.demands.proofs.Reports.{report-promise, report-some}
 use Rattle.demands.proofs.Runs.{from-fresh}
-use Rattle.board.specs.Answer.{flat, Answered}
+use Rattle.board.specs.Answer.{flat}
 use Rattle.board.specs.declared.Answer.{Answer}
 use Rattle.linked.specs.Board.{Starts, Receives, Hears, allowed, saidBy, numbered, Step, called, told, Offered}
 
@@ -34,7 +35,8 @@ use Rattle.linked.specs.Board.{Starts, Receives, Hears, allowed, saidBy,
 
 module _ {b : Board} {t : ℕ} {p before after : List ℕ} where
   -- what it says
-  receives-promise : {r : Answer} → Receives b t p before r after → Answered (call protocol (refusalOf b) (stateOf b) t (length before) p) b before r after
+  receives-promise : {r : Answer} → Receives b t p before r after
+      → Returned (λ c. flat (answer b c)) (call protocol (refusalOf b) (stateOf b) t (length before) p) before r after
   receives-promise (allowed κs a s got e f g h k) = rw (← e, ← f, ← g, ← h, ← k) got
 
   pub receives : {r : Answer} → Receives b t p before r after → (c : Call) × Answers b t p before c after × (r ≡ flat c)
@@ -83,9 +85,9 @@ offered-is (next b items rest run x z one more e) =
     let behind = offered-is more in
     let y = first .0 in
     let w = behind .0 in
-    let said : then x (λ _. z) ≡ numbered (then y (λ _. w)) =
-    (λ i. then (first .2 i) (λ _. behind .2 i)) ∙ (λ i. record { reply = y .reply ++ w .reply; orders = sym (map-append orderNumber (y .orders) (w .orders)) i; next = w .next }) in
-    (then y (λ _. w), next b items rest run y w (first .1) (subst (λ (c : Board). runs.Offered c rest w) (ap (λ (q : Said ℕ Board). q .next) (first .2)) (behind .1)) e, said)
+    let said : then x z ≡ numbered (then y w) =
+    (λ i. then (first .2 i) (behind .2 i)) ∙ (λ i. record { reply = y .reply ++ w .reply; orders = sym (map-append orderNumber (y .orders) (w .orders)) i; next = w .next }) in
+    (then y w, next b items rest run y w (first .1) (subst (λ (c : Board). runs.Offered c rest w) (ap (λ (q : Said ℕ Board). q .next) (first .2)) (behind .1)) e, said)
 
 -- DEMAND 3, of what C and Rust link: "Once all is taken, the replies joined, the orders in sequence, the settings, flags, last refused field, unfinished
 -- bytes and last stamp are those that sheet 01's rule gives for the whole run at once."

@@ -1,11 +1,10 @@
 -- Block mov's own maps, there and back (sheet, `Codec`). Assumes nothing.
-use mathlib.Core.Path.{refl}
+use mathlib.Core.Path.{_≡_, refl}
 use mathlib.Core.List.{List}
 use Prim.Native.Nat.{ℕ}
-use Rattle.wire.specs.Layout.{Room}
-use Rattle.wire.proofs.Laid.{room-listed, room-at}
+use Rattle.wire.proofs.Laid.{Room, room-listed, room-at}
 use Rattle.sheet.specs.Sheet.{movRow}
-use Rattle.sheet.specs.Rows.{widths}
+use Rattle.sheet.specs.Rows.{widths, values}
 use Rattle.sheet.proofs.Codec.{Codec, always}
 use Rattle.mov.specs.declared.Mov.{Mov}
 use Rattle.mov.specs.Mov.{movOf, movNumbers, MovHeld}
@@ -27,3 +26,7 @@ mov-codec =
     (λ b h. (h .speed, (h .uSpeed, (h .accel, (h .decel, (h .antiplaySpeed, (h .uAntiplaySpeed, tt)))))))
     (λ b h. refl)
     mov-held
+
+-- each field holds its number as its row says, unsigned, signed or float
+pub mov-values : (ns : List ℕ) → let b = movOf ns in values (movRow .fields) 0 ns ≡ (b .speed, (b .uSpeed, (b .accel, (b .decel, (b .antiplaySpeed, (b .uAntiplaySpeed, tt))))))
+mov-values ns = refl

@@ -1,17 +1,16 @@
 -- Block pid's own maps, there and back (sheet, `Codec`). Assumes nothing.
-use mathlib.Core.Path.{_≡_}
+use mathlib.Core.Path.{_≡_, refl}
 use mathlib.Core.List.{List}
 use Prim.Native.Nat.{ℕ}
 use lib.Dec.{lit<}
 use lib.ListN.{getD}
 use lib.Ieee.{binary32}
 use lib.Ieee.Bits.{ofBits-toBits, ofBits-fits, toBits-lt}
-use Rattle.wire.specs.Layout.{Room}
-use Rattle.wire.proofs.Laid.{room-listed, room-at}
+use Rattle.wire.proofs.Laid.{Room, room-listed, room-at}
 use Rattle.ranges.proofs.Tests.{all-of}
 use Rattle.wire.proofs.Values.{bits-back, bits-judged}
 use Rattle.sheet.specs.Sheet.{pidRow}
-use Rattle.sheet.specs.Rows.{widths, firstBad, verdicts}
+use Rattle.sheet.specs.Rows.{widths, values, firstBad, verdicts}
 use Rattle.sheet.proofs.Codec.{Codec}
 use Rattle.pid.specs.declared.Pid.{Pid}
 use Rattle.pid.specs.Pid.{pidOf, pidNumbers, PidHeld}
@@ -46,3 +45,7 @@ pid-codec =
       forth = λ b h. rw (ofBits-toBits binary32 (b .kpf) (h .kpf), ofBits-toBits binary32 (b .kif) (h .kif), ofBits-toBits binary32 (b .kdf) (h .kdf));
       held = pid-held;
     }
+
+-- each field holds its number as its row says, unsigned, signed or float
+pub pid-values : (ns : List ℕ) → let b = pidOf ns in values (pidRow .fields) 0 ns ≡ (b .kpU, (b .kiU, (b .kdU, (b .kpf, (b .kif, (b .kdf, tt))))))
+pid-values ns = refl

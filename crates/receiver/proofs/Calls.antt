@@ -28,8 +28,9 @@ use Rattle.state.specs.Sound.{refusalOf}
 use Rattle.state.specs.declared.Board.{Board}
 use Rattle.state.specs.declared.Call.{Call}
 use Rattle.state.proofs.Boards.{state-board}
-use Rattle.line.specs.Line.{Ran}
-use Rattle.receiver.specs.Receive.{answer, Received}
+use Rattle.state.specs.Returned.{Returned}
+use Rattle.line.specs.Line.{ran}
+use Rattle.receiver.specs.Receive.{answer}
 
 -- ---- an accepted call
 
@@ -46,13 +47,13 @@ accept-readied s t room (x ∷ piece) h k = accept-ready protocol silent s t roo
 
 -- what the loop makes of it is the call
 pub ran-call : (b : Board) (t : ℕ) (piece before after : List ℕ) (r : Call) → length piece ≤ longestPiece → longestFrame ≤ length before → refusalOf b ≡ 0
-    → 0 < length piece → Ran (accept protocol (ready protocol (stateOf b) t) t (length before) piece) before r after
-    → Received (call protocol (refusalOf b) (stateOf b) t (length before) piece) b before r after
-ran-call b t piece before after r fits wide sound some ran =
+    → 0 < length piece → Returned ran (accept protocol (ready protocol (stateOf b) t) t (length before) piece) before r after
+    → Returned (answer b) (call protocol (refusalOf b) (stateOf b) t (length before) piece) before r after
+ran-call b t piece before after r fits wide sound some got =
     let room = length before in
     let is = call-accepted protocol (refusalOf b) (stateOf b) t room piece fits wide sound in
     let takes : 0 < call protocol (refusalOf b) (stateOf b) t room piece .taken = rw is (accept-some (stateOf b) t room piece wide some) in
-    let done = rw (sym (is ∙ accept-readied (stateOf b) t room piece wide some)) at ran in
+    let done = rw (sym (is ∙ accept-readied (stateOf b) t room piece wide some)) at got in
     record { result = done .result ∙ rw (ne-eqb (call protocol (refusalOf b) (stateOf b) t room piece .taken) 0 (λ e. omega arith)); reply = done .reply }
 
 -- ---- what an answer leaves

@@ -23,9 +23,11 @@ use Rattle.unit.specs.Unit.{act}
 use Rattle.unit.specs.Protocol.{protocol}
 use Rattle.unit.specs.declared.Memory.{Memory}
 use Rattle.state.specs.State.{stateOf, boardOf, padded}
+use Rattle.state.specs.Returned.{Returned}
 use Rattle.state.specs.declared.Board.{Board}
 use Rattle.state.specs.declared.Call.{Call}
-use Rattle.line.specs.Line.{ran, Ran, holding}
+use Rattle.line.specs.Line.{ran}
+use Rattle.line.proofs.Turns.{holding}
 
 -- "without reply or flag": bytes that are dropped leave the memory
 lose-is : (m : Memory) (u : List ℕ) → lose protocol m u ≡ m
@@ -61,8 +63,8 @@ module _ (b : Board) (t had : ℕ) (begun : b .count < need (take (b .count) (b 
       by false e = let n : had ≡ b .count = is ∙ rw e in rw (e, n)
 
   -- where none are held, the call on the piece is the call from its front
-  pub on-piece : had ≡ 0 → (piece before after : List ℕ) (r : Call) → Ran (accept protocol (stateAt m [] t) t (length before) piece) before r after
-      → Ran (accept protocol (ready protocol (stateOf b) t) t (length before) piece) before r after
+  pub on-piece : had ≡ 0 → (piece before after : List ℕ) (r : Call) → Returned ran (accept protocol (stateAt m [] t) t (length before) piece) before r after
+      → Returned ran (accept protocol (ready protocol (stateOf b) t) t (length before) piece) before r after
   on-piece none piece before after r got = rw (readied, none) got
 
   module _ (full : length (b .held) ≡ longestFrame) where
@@ -73,20 +75,20 @@ module _ (b : Board) (t had : ℕ) (begun : b .count < need (take (b .count) (b 
     begins = rw had-long (had-cases (λ (n : ℕ). n < need (take n (b .held))) (need-some []) begun)
 
     -- the call on the piece, by the call on the line
-    module _ (line piece before after : List ℕ) (whole : line ≡ u ++ piece) (r : Call) (got : Ran (accept protocol (stateAt m [] t) t (length before) line) before r after) where
+    module _ (line piece before after : List ℕ) (whole : line ≡ u ++ piece) (r : Call) (got : Returned ran (accept protocol (stateAt m [] t) t (length before) line) before r after) where
       abbrev c : Called Order Memory
       c = accept protocol (ready protocol (stateOf b) t) t (length before) piece
 
       line-is : accept protocol (stateAt m [] t) t (length before) line ≡ later protocol had [] (ready protocol (stateOf b) t) t (length before) piece
       line-is = rw (whole, readied) (on-line protocol need-law m u piece t (length before) begins ∙ rw had-long)
 
-      on : Ran (later protocol had [] (ready protocol (stateOf b) t) t (length before) piece) before r after
+      on : Returned ran (later protocol had [] (ready protocol (stateOf b) t) t (length before) piece) before r after
       on = rw line-is at got
 
       pub had-taken : had ≤ r .taken
       had-taken = rw (ap (λ (x : Call). x .taken) (on .result)) (omega arith)
 
-      pub less-had : Ran c before (record { number = r .number; taken = r .taken - had; written = r .written; order = r .order; board = r .board }) after
+      pub less-had : Returned ran c before (record { number = r .number; taken = r .taken - had; written = r .written; order = r .order; board = r .board }) after
       less-had =
           let k : had + c .taken - had ≡ c .taken = omega arith in
           record {
@@ -98,7 +100,7 @@ module _ (b : Board) (t had : ℕ) (begun : b .count < need (take (b .count) (b 
 
     -- a piece that ends no unit: all of it is held
     pub stays-open : (piece before held : List ℕ) (count : ℕ) → held ≡ padded (u ++ piece) → count ≡ had + length piece → length (u ++ piece) < need (u ++ piece)
-        → Ran (accept protocol (ready protocol (stateOf b) t) t (length before) piece) before
+        → Returned ran (accept protocol (ready protocol (stateOf b) t) t (length before) piece) before
         (record { board = record { memory = m; held = held; count = count; stamp = t }; taken = length piece; written = 0; number = 0; order = Nothing }) before
     stays-open piece before held count laid counts h =
         let d = u ++ piece in
@@ -106,7 +108,7 @@ module _ (b : Board) (t had : ℕ) (begun : b .count < need (take (b .count) (b 
         let long : length d ≡ had + length piece = length-append u piece ∙ ap (λ (k : ℕ). k + length piece) had-long in
         let stays : accept protocol (stateAt m [] t) t room d ≡ over (length d) [] [] (stateAt m d t) =
         later-start protocol (stateAt m [] t) t room d ∙ unit-open protocol need-law 0 [] m t room d h ∙ rw (zero-add (length d)) in
-        let all : Ran (accept protocol (stateAt m [] t) t room d) before (holding m Nothing t d (length d) 0) before = rw stays (record { result = refl; reply = refl }) in
+        let all : Returned ran (accept protocol (stateAt m [] t) t room d) before (holding m Nothing t d (length d) 0) before = rw stays (record { result = refl; reply = refl }) in
         let taken : length d - had ≡ length piece = omega (arith, long) in
         let got = less-had d piece before before refl (holding m Nothing t d (length d) 0) all in
         record {

@@ -16,8 +16,9 @@ ghost use Rattle.names.specs.Names.{need};
 ghost use Rattle.unit.specs.Protocol.{protocol};
 ghost use Rattle.state.specs.State.{stateOf, padded};
 ghost use Rattle.state.specs.Sound.{refusalOf};
-ghost use Rattle.line.specs.Line.{Ran};
-ghost use Rattle.receiver.specs.Receive.{answer, Received};
+ghost use Rattle.state.specs.Returned.{Returned};
+ghost use Rattle.line.specs.Line.{ran};
+ghost use Rattle.receiver.specs.Receive.{answer};
 
 // The bytes held and a piece behind them.
 const LINE: usize = sheet::FRAME + sheet::PIECE;
@@ -47,7 +48,7 @@ fn beginning(held: [u8; sheet::FRAME], had: usize, piece: &[u8]) -> [u8; sheet::
 // all of held is copied, spare bytes too, and the piece is laid over those.
 fn run_line(board: Board, had: usize, piece: &[u8], stamp: u32, reply: &mut [u8]) -> Call
     requires { ⌜ (length (board .held) ≡ longestFrame) × (board .count < need (take (board .count) (board .held))) × (length (now piece) ≤ longestPiece) × (had ≡ cond (late stamp (board .stamp)) 0 (board .count)) ⌝ }
-    ensures { λ r. ⌜ Ran (accept protocol (ready protocol (stateOf board) stamp) stamp (length (now (reply .entry))) (now (piece .entry))) (now (reply .entry)) r (now (reply .exit)) ⌝ }
+    ensures { λ r. ⌜ Returned ran (accept protocol (ready protocol (stateOf board) stamp) stamp (length (now (reply .entry))) (now (piece .entry))) (now (reply .entry)) r (now (reply .exit)) ⌝ }
 {
     if had == 0 {
         let memory = board.memory;
@@ -82,7 +83,7 @@ fn is_open(had: usize, wants: usize, piece: &[u8]) -> bool
 // A main loop sees bytes one by one, and most of them end no unit: then the piece joins the bytes held, and no line is laid out.
 fn run(board: Board, wants: usize, piece: &[u8], stamp: u32, reply: &mut [u8]) -> Call
     requires { ⌜ (length (board .held) ≡ longestFrame) × (board .count < wants) × (wants ≡ need (take (board .count) (board .held))) × (length (now piece) ≤ longestPiece) × (0 < length (now piece)) ⌝ }
-    ensures { λ r. ⌜ Ran (accept protocol (ready protocol (stateOf board) stamp) stamp (length (now (reply .entry))) (now (piece .entry))) (now (reply .entry)) r (now (reply .exit)) ⌝ }
+    ensures { λ r. ⌜ Returned ran (accept protocol (ready protocol (stateOf board) stamp) stamp (length (now (reply .entry))) (now (piece .entry))) (now (reply .entry)) r (now (reply .exit)) ⌝ }
 {
     let had = joined(board.count, stamp, board.stamp);
     if is_open(had, wants, piece) {
@@ -121,7 +122,7 @@ fn refuse(number: u8, board: Board) -> Call
 
 // One call: a piece of bytes that share a stamp, and room for the replies.
 pub fn receive(board: Board, piece: &[u8], stamp: u32, reply: &mut [u8]) -> Call
-    ensures { λ r. ⌜ Received (call protocol (refusalOf board) (stateOf board) stamp (length (now (reply .entry))) (now (piece .entry))) board (now (reply .entry)) r (now (reply .exit)) ⌝ }
+    ensures { λ r. ⌜ Returned (answer board) (call protocol (refusalOf board) (stateOf board) stamp (length (now (reply .entry))) (now (piece .entry))) (now (reply .entry)) r (now (reply .exit)) ⌝ }
 {
     if sheet::PIECE < piece.len() {
         return refuse(1, board);

@@ -32,7 +32,7 @@ module _ {E O M : Type 0} (p : Protocol E O M) where
         at-end = λ s _. none-steps s t 0 [];
         at-full = λ s _ x piece _. none-steps s t 0 (x ∷ piece);
         at-order = λ s _ x _ _ _ _ _. record { same = sym (then-quiet (says p t s x)); most = omega arith };
-        at-next = λ s _ x _ c _ _ ih. record { same = ap (λ (a : Said O (State M)). then (says p t s x) (λ _. a)) (ih .same); most = omega (arith, ih .most) };
+        at-next = λ s _ x _ c _ _ ih. record { same = ap (then (says p t s x)) (ih .same); most = omega (arith, ih .most) };
       }) piece s room
 
   pub call-steps : (verdict : ℕ) (piece : List ℕ) (s : State M) (t room : ℕ) → TakesSteps p s t piece (call p verdict s t room piece)

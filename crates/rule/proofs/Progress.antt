@@ -2,16 +2,17 @@
 -- a state of which whatever byte steps keep is true.
 use Prim.Native.Nat.{ℕ, suc, _-_, _<_, _≤_}
 use mathlib.Core.Path.{_≡_, refl, ap}
+use mathlib.Core.Bool.{true}
 use mathlib.Core.List.{List, [], _∷_, _++_, append-nil}
 use native.Mathlib.Omega.{arith}
 use lib.ListN.{length, length-append}
-use borrow.Author.Tests.{le-leb}
+use borrow.Author.Tests.{lt-ltb, le-leb}
 use Rattle.rule.specs.Run.{Item, byte, at, late}
-use Rattle.rule.specs.Framing.{Needs, Token, whole, lost}
+use Rattle.rule.specs.Framing.{Needs, begun, Token, whole, lost}
 use Rattle.rule.specs.Rule.{State, Protocol, deal}
 use Rattle.rule.specs.Step.{Fed, settle, feedOn, feed, step, steps}
 use Rattle.rule.specs.Calls.{Called, going, accept}
-use Rattle.rule.specs.Facts.{says, Silent, Begun, Stopped, ended, ordered, full}
+use Rattle.rule.specs.Facts.{says, Silent, Stopped, ended, ordered, full}
 use Rattle.rule.proofs.Choice.{either, eitherNone}
 use Rattle.rule.proofs.Framing.{settle-either}
 use Rattle.rule.proofs.Accept.{accept-by}
@@ -19,13 +20,14 @@ use Rattle.rule.proofs.Accept.{accept-by}
 module _ {E O M : Type 0} (p : Protocol E O M) where
   -- the line's unfinished bytes are a true beginning
   abbrev Open : Fed E → Type 0
-  Open f = length (f .line .unfinished) < p .need (f .line .unfinished)
+  Open f = begun (p .need) (f .line .unfinished) ≡ true
 
   settle-begun : Needs (p .need) → (u : List ℕ) (t : ℕ) → Open (settle (p .cuts) (p .need) u t)
-  settle-begun law u t = settle-either (p .cuts) (p .need) Open u t (λ _. law .starts) (λ h. h)
+  unfolding begun
+  settle-begun law u t = settle-either (p .cuts) (p .need) Open u t (λ _. lt-ltb 0 (p .need []) (law .starts)) (λ h. lt-ltb (length u) (p .need u) h)
 
   -- after a byte they always are, whatever they were before
-  pub step-begun : Needs (p .need) → (s : State M) (t x : ℕ) → Begun p (step p s (byte t x) .next)
+  pub step-begun : Needs (p .need) → (s : State M) (t x : ℕ) → begun (p .need) (step p s (byte t x) .next .line .unfinished) ≡ true
   unfolding step feed feedOn
   step-begun law s t x = by (s .line .unfinished)
     where
@@ -34,7 +36,8 @@ module _ {E O M : Type 0} (p : Protocol E O M) where
       by (a ∷ u) =
           either Open (late t (s .line .last)) _ _ (settle-begun law (x ∷ []) t) (settle-begun law (a ∷ u ++ x ∷ []) t)
 
-  pub steps-begun : Needs (p .need) → (t : ℕ) (piece : List ℕ) (s : State M) → Begun p s → Begun p (steps p s (at t piece) .next)
+  pub steps-begun : Needs (p .need) → (t : ℕ) (piece : List ℕ) (s : State M) → begun (p .need) (s .line .unfinished) ≡ true
+      → begun (p .need) (steps p s (at t piece) .next .line .unfinished) ≡ true
   unfolding steps
   steps-begun law t [] s h = h
   steps-begun law t (x ∷ piece) s h = steps-begun law t piece (step p s (byte t x) .next) (step-begun law s t x)

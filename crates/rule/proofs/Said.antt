@@ -5,13 +5,11 @@ use Rattle.rule.specs.Framing.{Token}
 use Rattle.rule.specs.Rule.{Said, quiet, then, Protocol, deal}
 
 module _ {O M : Type 0} where
-  pub then-quiet : (a : Said O M) → then a quiet ≡ a
+  pub then-quiet : (a : Said O M) → then a (quiet (a .next)) ≡ a
   then-quiet a = λ i. record { reply = append-nil (a .reply) i; orders = append-nil (a .orders) i; next = a .next }
 
-  pub then-then : (a : Said O M) (f g : M → Said O M) → then (then a f) g ≡ then a (λ m. then (f m) g)
-  then-then a f g =
-      let b = f (a .next) in
-      let c = g (b .next) in
+  pub then-then : (a b c : Said O M) → then (then a b) c ≡ then a (then b c)
+  then-then a b c =
       λ i.
       record {
         reply = append-assoc (a .reply) (b .reply) (c .reply) i;
@@ -20,8 +18,10 @@ module _ {O M : Type 0} where
       }
 
 module _ {E O M : Type 0} (p : Protocol E O M) where
-  pub deal-append : (ks ls : List (Token E)) (m : M) → deal p m (ks ++ ls) ≡ then (deal p m ks) (λ n. deal p n ls)
+  pub deal-append : (ks ls : List (Token E)) (m : M) → deal p m (ks ++ ls) ≡ then (deal p m ks) (deal p (deal p m ks .next) ls)
   unfolding deal
   deal-append [] ls m = refl
   deal-append (k ∷ ks) ls m =
-      ap (λ (f : M → Said O M). then (p .act m k) f) (λ i n. deal-append ks ls n i) ∙ sym (then-then (p .act m k) (λ n. deal p n ks) (λ n. deal p n ls))
+      let a = p .act m k in
+      let b = deal p (a .next) ks in
+      ap (then a) (deal-append ks ls (a .next)) ∙ sym (then-then a b (deal p (b .next) ls))

@@ -10,12 +10,13 @@ use Rattle.rule.proofs.Said.{then-then, deal-append}
 use Rattle.rule.proofs.Framing.{feeds-is-units, feeds-last}
 
 module _ {E O M : Type 0} (p : Protocol E O M) where
-  pub steps-append : (q r : List (Item E)) (s : State M) → steps p s (q ++ r) ≡ then (steps p s q) (λ c. steps p c r)
+  pub steps-append : (q r : List (Item E)) (s : State M) → steps p s (q ++ r) ≡ then (steps p s q) (steps p (steps p s q .next) r)
   unfolding steps
   steps-append [] r s = refl
   steps-append (x ∷ q) r s =
-      ap (λ (f : State M → Said O (State M)). then (step p s x) f) (λ i c. steps-append q r c i)
-      ∙ sym (then-then (step p s x) (λ c. steps p c q) (λ c. steps p c r))
+      let a = step p s x in
+      let b = steps p (a .next) q in
+      ap (then a) (steps-append q r (a .next)) ∙ sym (then-then a b (steps p (b .next) r))
 
   -- the byte steps are the framing's, dealt with
   pub steps-feeds : (r : List (Item E)) (s : State M)

@@ -29,7 +29,7 @@ module _ {O M : Type 0} where
   ending a = record { number = 0; taken = 1; said = a }
 
   abbrev pub going : Said O (State M) → Called O M → Called O M
-  going a rest = record { number = 0; taken = suc (rest .taken); said = then a (λ _. rest .said) }
+  going a rest = record { number = 0; taken = suc (rest .taken); said = then a (rest .said) }
 
   -- "a byte taken completed an order": that ends the call
   abbrev pub more : Said O (State M) → Called O M → Called O M

@@ -59,10 +59,6 @@ module _ {E O M : Type 0} (p : Protocol E O M) where
     pub reply : (m : M) (u : List ℕ) → p .act m (lost u) .reply ≡ []
     pub orders : (m : M) (u : List ℕ) → p .act m (lost u) .orders ≡ []
 
-  -- "its unfinished bytes are none or a true beginning of one unit"
-  abbrev pub Begun : State M → Type 0
-  Begun s = length (s .line .unfinished) < p .need (s .line .unfinished)
-
   -- a call c is the byte steps over what it took
   pub record TakesSteps (s : State M) (t : ℕ) (piece : List ℕ) (c : Called O M) : Type 0 where
     pub same : c .said ≡ steps p s (at t (take (c .taken) piece))

@@ -4,7 +4,7 @@ use Prim.Native.Nat.{ℕ, zero, suc, _-_, _<_, _≤_}
 use mathlib.Core.Path.{_≡_}
 use mathlib.Core.Bool.{Bool, cond}
 use mathlib.Core.List.{List, [], _∷_, _++_}
-use lib.Dec.{leb}
+use lib.Dec.{leb, ltb}
 use lib.ListN.{length, take, drop}
 use Rattle.rule.specs.Run.{Item, byte, event, bytes, events, among, past, onward}
 
@@ -13,6 +13,10 @@ pub record Needs (need : List ℕ → ℕ) : Type 0 where
   pub starts : 0 < need []
   pub settled : (u w : List ℕ) → need u ≤ length u → need (u ++ w) ≡ need u
   pub pending : (u w : List ℕ) → length u < need u → length u < need (u ++ w)
+
+-- the bytes u are none or "a true beginning of one unit" (01, "One call")
+unfoldable pub begun : (List ℕ → ℕ) → List ℕ → Bool
+begun need u = ltb (length u) (need u)
 
 -- what a run falls into: a whole unit; "the unit's bytes so far" where a wait, or an event that cuts, drops them; an event
 pub data Token (E : Type 0) : Type 0 where

@@ -16,9 +16,9 @@ module _ {O M : Type 0} where
   abbrev pub quiet : M → Said O M
   quiet m = record { reply = []; orders = []; next = m }
 
-  -- what is said first, and behind it what is said from where that ended
-  abbrev pub then : Said O M → (M → Said O M) → Said O M
-  then a f = record { reply = a .reply ++ f (a .next) .reply; orders = a .orders ++ f (a .next) .orders; next = f (a .next) .next }
+  -- what is said first, and behind it what is said next
+  abbrev pub then : Said O M → Said O M → Said O M
+  then a b = record { reply = a .reply ++ b .reply; orders = a .orders ++ b .orders; next = b .next }
 
 -- where a run ends: the bytes that "stay unfinished", and the last stamp
 pub record Line : Type 0 where
@@ -51,7 +51,7 @@ module _ {E O M : Type 0} (p : Protocol E O M) where
   -- unit after unit, each from the memory that the one before it left
   unfoldable pub deal : M → List (Token E) → Said O M
   deal m [] = quiet m
-  deal m (k ∷ ks) = then (p .act m k) (λ n. deal n ks)
+  deal m (k ∷ ks) = let a = p .act m k in then a (deal (a .next) ks)
 
   -- "The rule for a whole run, from its front, with nothing unfinished (its definition takes unit after unit off the run; it knows no call, piece or
   -- room and is not the receiver's byte step repeated)": from the memory m, the last stamp t

@@ -55,4 +55,4 @@ module _ {E O M : Type 0} (p : Protocol E O M) where
 
   unfoldable pub steps : State M → List (Item E) → Said O (State M)
   steps s [] = quiet s
-  steps s (x ∷ r) = then (step s x) (λ c. steps c r)
+  steps s (x ∷ r) = let a = step s x in then a (steps (a .next) r)

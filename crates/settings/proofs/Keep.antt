@@ -7,7 +7,8 @@ use lib.Dec.{T, eqb}
 use lib.Ieee.{toBits, ofBits}
 use lib.ListN.{length, getD}
 use borrow.Author.Tests.{eqb-true, ne-eqb}
-use Rattle.wire.specs.Layout.{sum, Room}
+use Rattle.wire.specs.Layout.{sum}
+use Rattle.wire.proofs.Laid.{Room}
 use Rattle.ranges.specs.Tests.{within, signedWithin, finite, onlyBits, firstFalse}
 use Rattle.sheet.specs.Sheet.{Row, movRow, engRow, pwrRow, edsRow, homRow, brkRow, pidRow}
 use Rattle.sheet.specs.Rows.{rowAt, rowIn, widths, numbersIn, dataOf, firstBad, canonical, least}

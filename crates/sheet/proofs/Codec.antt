@@ -5,9 +5,9 @@ use Prim.Native.Nat.{ℕ, _≤_, _<_, _^_}
 use mir.Syntax.{w16, w32}
 use mir.Val.{Fits, SFits, toZ, ofZ}
 use mir.ValLaws.{ofZ-toZ, toZ-fits}
-use Rattle.wire.proofs.Laid.{room-at}
+use Rattle.wire.proofs.Laid.{Room, room-at}
 use lib.ListN.{length, getD}
-use Rattle.wire.specs.Layout.{sum, Room}
+use Rattle.wire.specs.Layout.{sum}
 use Rattle.sheet.specs.Sheet.{Row}
 use Rattle.sheet.specs.Rows.{widths, numbersIn, dataOf, firstBad, canonical}
 use Rattle.sheet.proofs.Laws.{read-back, sent-again, numbers-fit}

@@ -9,9 +9,9 @@ use borrow.Author.Tests.{eqb-true, eqb-false}
 use lib.Dec.{eqb}
 use lib.ListN.{length, getD, take, replicate}
 use lib.Seq.{sets, length-sets}
-use Rattle.wire.specs.Layout.{sum, Room}
+use Rattle.wire.specs.Layout.{sum}
 use Rattle.wire.proofs.Stores.{front-stored}
-use Rattle.wire.proofs.Laid.{numbers-laid, laid-numbers, laid-then-zeros, length-laid, length-numbers, numbers-room, numbers-take, room-length}
+use Rattle.wire.proofs.Laid.{Room, numbers-laid, laid-numbers, laid-then-zeros, length-laid, length-numbers, numbers-room, numbers-take, room-length}
 use Rattle.sheet.specs.Sheet.{Row}
 use Rattle.sheet.specs.Lengths.{longestFrame}
 use Rattle.sheet.specs.Rows.{widths, total, numbersIn, dataOf, canonical, least, leastFrom}

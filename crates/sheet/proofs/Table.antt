@@ -5,7 +5,7 @@ use mathlib.Core.List.{List, [], _∷_, _++_, map}
 use Prim.Native.Nat.{ℕ, _≤_, max}
 use native.Mathlib.Omega.{arith}
 use lib.Dec.{eqb}
-use Rattle.wire.specs.Layout.{Room}
+use Rattle.wire.proofs.Laid.{Room}
 use Rattle.ranges.specs.Tests.{within, signedWithin, finite, onlyBits, firstFalse}
 use Rattle.sheet.specs.Sheet.{Row, Command, sheet, setTable, getTable, movRow, engRow, pwrRow, edsRow, homRow, brkRow, pidRow}
 use Rattle.sheet.specs.Lengths.{longestFrame}

@@ -3,11 +3,15 @@ use mathlib.Core.Bool.{Bool, cond}
 use mathlib.Core.List.{List, [], _∷_, _++_}
 use Prim.Native.Nat.{ℕ, zero, suc, _+_}
 use lib.Dec.{eqb}
+use lib.Ieee.{Float, binary32, ofBits}
+use lib.IntN.{ℤ}
 use lib.ListN.{getD, take, replicate}
+use mir.Syntax.{w16, w32}
+use mir.Val.{toZ}
 use Rattle.wire.specs.Layout.{numbers, laid, sum}
 use Rattle.ranges.specs.Tests.{firstFalse}
 use Rattle.sheet.specs.declared.Head.{Head}
-use Rattle.sheet.specs.Sheet.{Field, Row, Command, sheet}
+use Rattle.sheet.specs.Sheet.{Sort, unsigned, signed, float, Field, Row, Command, sheet}
 
 abbrev widthsOf : List Field → List ℕ
 widthsOf [] = []
@@ -37,6 +41,29 @@ dataOf r ns = laid (widths r ++ r .reserved ∷ []) ns
 -- a data section with its reserved bytes zero
 abbrev pub canonical : Row → List ℕ → List ℕ
 canonical r d = take (sum (widths r)) d ++ replicate (r .reserved) 0
+
+-- ---- what the numbers stand for
+
+-- a field of a block's record is a natural number, an integer or a float,
+abbrev pub TypeOf : Sort → Type 0
+TypeOf unsigned = ℕ
+TypeOf signed = ℤ
+TypeOf float = Float
+
+-- the one that its number of so many bytes stands for; a signed number has 2 or 4
+abbrev pub value : (s : Sort) → ℕ → ℕ → TypeOf s
+value unsigned w n = n
+value signed w n = toZ (cond (eqb w 2) w16 w32) n
+value float w n = ofBits binary32 n
+
+-- all fields, by the numbers from place k on
+abbrev pub TypesOf : List Field → Type 0
+TypesOf [] = Unit {0}
+TypesOf (f ∷ fs) = TypeOf (f .sort) × TypesOf fs
+
+abbrev pub values : (fs : List Field) → ℕ → List ℕ → TypesOf fs
+values [] k ns = tt
+values (f ∷ fs) k ns = (value (f .sort) (f .width) (getD ns k 0), values fs (k + 1) ns)
 
 -- ---- ranges
 

@@ -6,8 +6,13 @@ use Prim.Native.Nat.{ℕ}
 use Rattle.ranges.specs.Tests.{any, within, signedWithin, finite, onlyBits}
 use Rattle.sheet.specs.Names.{named}
 
--- a field: its width in bytes, and the test of its number as it stands on the wire, where it is unsigned
+-- "U = unsigned, S = signed, F = 32-bit float,
+pub data Sort : Type 0 where
+  unsigned signed float : Sort
+
+-- a field: what its number stands for, its width in bytes, and the test of its number as it stands on the wire, where it is unsigned
 pub record Field : Type 0 where
+  pub sort : Sort
   pub width : ℕ
   pub test : ℕ → Bool
 
@@ -22,25 +27,25 @@ pub record Command : Type 0 where
   pub name : ℕ
   pub row : Row
 
--- "U = unsigned, S = signed, F = 32-bit float, with widths in bits."
+-- with widths in bits."
 abbrev U8 : (ℕ → Bool) → Field
-U8 t = record { width = 1; test = t }
+U8 t = record { sort = unsigned; width = 1; test = t }
 
 abbrev U16 : (ℕ → Bool) → Field
-U16 t = record { width = 2; test = t }
+U16 t = record { sort = unsigned; width = 2; test = t }
 
 abbrev U32 : (ℕ → Bool) → Field
-U32 t = record { width = 4; test = t }
+U32 t = record { sort = unsigned; width = 4; test = t }
 
 abbrev S16 : (ℕ → Bool) → Field
-S16 t = record { width = 2; test = t }
+S16 t = record { sort = signed; width = 2; test = t }
 
 abbrev S32 : (ℕ → Bool) → Field
-S32 t = record { width = 4; test = t }
+S32 t = record { sort = signed; width = 4; test = t }
 
 -- "each must be finite"
 abbrev F : Field
-F = record { width = 4; test = finite }
+F = record { sort = float; width = 4; test = finite }
 
 -- | 1 | mov | 30 | Speed U32 0..100000, uSpeed U8, Accel U16 1..65535, Decel U16 1..65535, AntiplaySpeed U32 0..100000, uAntiplaySpeed U8 | 10 |
 abbrev pub movRow : Row

@@ -9,9 +9,10 @@ use borrow.Author.Tests.{le-leb, lt-leb}
 use Rattle.settings.specs.Settings.{allGood}
 use Rattle.sheet.specs.Lengths.{longestFrame}
 use Rattle.rule.specs.Rule.{State}
+use Rattle.rule.specs.Framing.{begun}
 use Rattle.names.specs.Names.{need}
 use Rattle.names.proofs.Need.{need-some, need-most}
-use Rattle.unit.specs.Protocol.{begun, soundMemory, soundState, freshState}
+use Rattle.unit.specs.Protocol.{soundMemory, soundState, freshState}
 use Rattle.unit.specs.declared.Memory.{Memory}
 use Rattle.unit.proofs.Sound as sound
 use Rattle.state.specs.State.{stateOf, boardOf}
@@ -51,17 +52,17 @@ module _ (b : Board) where
 
   pub judged-unbegun : wantedBy u ≡ 0 → verdictOf b ≡ record { number = 3; wants = 0 }
   unfolding soundState
-  judged-unbegun z = by (begun u) refl
+  judged-unbegun z = by (begun need u) refl
     where
-      by : (y : Bool) → begun u ≡ y → verdictOf b ≡ record { number = 3; wants = 0 }
+      by : (y : Bool) → begun need u ≡ y → verdictOf b ≡ record { number = 3; wants = 0 }
       by true e = let w : need u ≡ 0 = ap (λ (c : Bool). cond c (need u) 0) (sym e) ∙ z in absurd (omega (arith, need-some u))
       by false e = rw e
 
   module _ (some : wantedBy u ≡ 0 → ⊥) where
-    is-begun : begun u ≡ true
-    is-begun = by (begun u) refl
+    is-begun : begun need u ≡ true
+    is-begun = by (begun need u) refl
       where
-        by : (y : Bool) → begun u ≡ y → y ≡ true
+        by : (y : Bool) → begun need u ≡ y → y ≡ true
         by true e = refl
         by false e = absurd (some (rw e))
 

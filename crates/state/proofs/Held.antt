@@ -8,9 +8,9 @@ use lib.Seq.{getD-take, length-take-le}
 use borrow.Author.Tests.{lt-ltb, le-ltb}
 use Rattle.wire.proofs.Numbers.{leAt-take}
 use Rattle.sheet.specs.Lengths.{longestFrame}
+use Rattle.rule.specs.Framing.{begun}
 use Rattle.names.specs.Names.{kindAt, kindOf, span as spans, need}
 use Rattle.names.proofs.Need.{kind-named, need-zero, need-name, need-span, need-some, need-most}
-use Rattle.unit.specs.Protocol.{begun}
 use Rattle.state.specs.Sound.{wantedBy}
 
 module _ (held : List ℕ) (n : ℕ) (full : length held ≡ longestFrame) where

@@ -1,2 +1,3 @@
 pub mod State
 pub mod Sound
+pub mod Returned

@@ -3,8 +3,9 @@ use mathlib.Core.Bool.{Bool, cond}
 use mathlib.Core.List.{List}
 use Prim.Native.Nat.{ℕ}
 use lib.ListN.{take}
+use Rattle.rule.specs.Framing.{begun}
 use Rattle.names.specs.Names.{need}
-use Rattle.unit.specs.Protocol.{begun, soundState}
+use Rattle.unit.specs.Protocol.{soundState}
 use Rattle.state.specs.State.{stateOf}
 use Rattle.state.specs.declared.Board.{Board}
 use Rattle.state.specs.declared.Verdict.{Verdict}
@@ -20,7 +21,7 @@ refusalOf b = cond (soundBoard b) 0 3
 
 -- how long the unit is that the bytes u begin, as far as they tell; 0 where they begin none
 abbrev pub wantedBy : List ℕ → ℕ
-wantedBy u = cond (begun u) (need u) 0
+wantedBy u = cond (begun need u) (need u) 0
 
 -- the verdict as the code gives it
 abbrev pub verdictOf : Board → Verdict

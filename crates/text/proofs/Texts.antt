@@ -11,7 +11,8 @@ use lib.Dec.{eqb, leb, ltb}
 use lib.ListN.{length, getD, take, length-append}
 use lib.Seq.{sets, sets-eq, length-sets, take-suc, take-at, length-take-le}
 use Rattle.wire.proofs.Stores.{sets-append, sets-past}
-use Rattle.text.specs.Texts.{ascii, glyph, digits, decimal, hex, shown, Written}
+use Rattle.wire.specs.Letters.{ascii}
+use Rattle.text.specs.Texts.{glyph, digits, decimal, hex, shown, Written}
 
 -- ---- one text behind another
 

@@ -2,16 +2,11 @@
 use mathlib.Core.Bool.{cond}
 use mathlib.Core.List.{List, [], _∷_, _++_}
 use mathlib.Core.Path.{_≡_}
-use Prim.Native.Char.{code}
 use Prim.Native.Nat.{ℕ, zero, suc, _+_, _/_, _%_, min}
-use Prim.Native.String as string
 use lib.Dec.{eqb, ltb}
 use lib.ListN.{length}
 use lib.Seq.{sets}
-
-abbrev pub ascii : string.String → List ℕ
-ascii string.[] = []
-ascii (string._∷_ c s) = code c ∷ ascii s
+use Rattle.wire.specs.Letters.{ascii}
 
 -- 0 to 9, then a to f
 abbrev pub glyph : ℕ → ℕ

@@ -1,7 +1,8 @@
 -- The lines of the bench. In quotation marks: sheet 01, "The bench program".
 use mathlib.Core.List.{List, _++_}
 use Prim.Native.Nat.{ℕ}
-use Rattle.text.specs.Texts.{ascii, decimal, shown}
+use Rattle.wire.specs.Letters.{ascii}
+use Rattle.text.specs.Texts.{decimal, shown}
 
 -- a number, "with single spaces" behind
 abbrev spaced : ℕ → List ℕ

@@ -3,10 +3,9 @@
 use mathlib.Core.Path.{_≡_, refl}
 use mathlib.Core.List.{List, [], _∷_, _++_, map}
 use Prim.Native.Nat.{ℕ}
-use Prim.Native.Char.{code}
-use Prim.Native.String.{String, [] as empty, _∷_ as _then_}
 use lib.ListN.{replicate}
 use Rattle.crc.specs.Crc.{crcBit, crcBits, crcByte, crcFrom, crcOf}
+use Rattle.wire.specs.Letters.{ascii}
 use Rattle.wire.specs.Numbers.{leAt, leBytes}
 use Rattle.wire.specs.Layout.{laid}
 use Rattle.ranges.specs.Tests.{within, onlyBits, firstFalse}
@@ -64,17 +63,12 @@ pub data Each : List Case → Type 0 where
 
 -- ---- the table
 
--- letters as bytes, "sent in letter order"
-abbrev pub sent : String → List ℕ
-sent empty = []
-sent (c then s) = code c ∷ sent s
-
 abbrev pub zeros : ℕ → List ℕ
 zeros n = replicate n 0
 
 -- a set of block 6 with t1 65535, and this CRC behind it
 abbrev pub brake : List ℕ → List ℕ
-brake check = sent "sbrk" ++ (0xFF ∷ 0xFF ∷ zeros 17 ++ check)
+brake check = ascii "sbrk" ++ (0xFF ∷ 0xFF ∷ zeros 17 ++ check)
 
 abbrev pub cases : List Case
 cases =
@@ -87,14 +81,14 @@ cases =
     -- of FF FF: 0x0000;
     ∷ crc (0xFF ∷ 0xFF ∷ []) 0x0000
     -- of the nine digits 123456789: 0x4B37 (five cases)."
-    ∷ crc (sent "123456789") 0x4B37
+    ∷ crc (ascii "123456789") 0x4B37
     -- "sbrk, FF FF, 17 zeros, CRC 00 00: reply sbrk, t1 is 65535."
     ∷ frame (at 0 (brake (0x00 ∷ 0x00 ∷ []))) 6
-    (record { reply = sent "sbrk"; orders = []; unfinished = []; flags = 0; block = 0; field = 0; holds = 65535 ∷ 0 ∷ 0 ∷ 0 ∷ 0 ∷ [] })
+    (record { reply = ascii "sbrk"; orders = []; unfinished = []; flags = 0; block = 0; field = 0; holds = 65535 ∷ 0 ∷ 0 ∷ 0 ∷ 0 ∷ [] })
     -- "Then gbrk: gbrk, FF FF, 17 zeros, 00 00."
-    ∷ frame (at 0 (brake (0x00 ∷ 0x00 ∷ [])) ++ at 0 (sent "gbrk")) 6
+    ∷ frame (at 0 (brake (0x00 ∷ 0x00 ∷ [])) ++ at 0 (ascii "gbrk")) 6
     (record {
-      reply = sent "sbrk" ++ (sent "gbrk" ++ (0xFF ∷ 0xFF ∷ zeros 17 ++ (0x00 ∷ 0x00 ∷ [])));
+      reply = ascii "sbrk" ++ (ascii "gbrk" ++ (0xFF ∷ 0xFF ∷ zeros 17 ++ (0x00 ∷ 0x00 ∷ [])));
       orders = [];
       unfinished = [];
       flags = 0;
@@ -104,22 +98,22 @@ cases =
     })
     -- "The same set with CRC 01 00: errd, block 6 as before."
     ∷ frame (at 0 (brake (0x01 ∷ 0x00 ∷ []))) 6
-    (record { reply = sent "errd"; orders = []; unfinished = []; flags = 2; block = 0; field = 0; holds = 0 ∷ 0 ∷ 0 ∷ 0 ∷ 0 ∷ [] })
+    (record { reply = ascii "errd"; orders = []; unfinished = []; flags = 2; block = 0; field = 0; holds = 0 ∷ 0 ∷ 0 ∷ 0 ∷ 0 ∷ [] })
     -- "smov, FF FF, 22 zeros, 00 00: errv, block 1 field 3, Speed still 0 on a fresh board."
-    ∷ frame (at 0 (sent "smov" ++ (0xFF ∷ 0xFF ∷ zeros 22 ++ (0x00 ∷ 0x00 ∷ [])))) 1
-    (record { reply = sent "errv"; orders = []; unfinished = []; flags = 4; block = 1; field = 3; holds = 0 ∷ 0 ∷ 1 ∷ 1 ∷ 0 ∷ 0 ∷ [] })
+    ∷ frame (at 0 (ascii "smov" ++ (0xFF ∷ 0xFF ∷ zeros 22 ++ (0x00 ∷ 0x00 ∷ [])))) 1
+    (record { reply = ascii "errv"; orders = []; unfinished = []; flags = 4; block = 1; field = 3; holds = 0 ∷ 0 ∷ 1 ∷ 1 ∷ 0 ∷ 0 ∷ [] })
     -- "righ then t: errc, one byte unfinished."
-    ∷ frame (at 0 (sent "righ") ++ at 0 (sent "t")) 1
-    (record { reply = sent "errc"; orders = []; unfinished = sent "t"; flags = 1; block = 0; field = 0; holds = 0 ∷ 0 ∷ 1 ∷ 1 ∷ 0 ∷ 0 ∷ [] })
+    ∷ frame (at 0 (ascii "righ") ++ at 0 (ascii "t")) 1
+    (record { reply = ascii "errc"; orders = []; unfinished = ascii "t"; flags = 1; block = 0; field = 0; holds = 0 ∷ 0 ∷ 1 ∷ 1 ∷ 0 ∷ 0 ∷ [] })
     -- "s and four zeros: errc, then one zero byte."
-    ∷ frame (at 0 (sent "s" ++ zeros 4)) 1
-    (record { reply = sent "errc" ++ (0x00 ∷ []); orders = []; unfinished = []; flags = 1; block = 0; field = 0; holds = 0 ∷ 0 ∷ 1 ∷ 1 ∷ 0 ∷ 0 ∷ [] })
+    ∷ frame (at 0 (ascii "s" ++ zeros 4)) 1
+    (record { reply = ascii "errc" ++ (0x00 ∷ []); orders = []; unfinished = []; flags = 1; block = 0; field = 0; holds = 0 ∷ 0 ∷ 1 ∷ 1 ∷ 0 ∷ 0 ∷ [] })
     -- "st at stamp 4294967200, op at 304 (wait 400): order 1."
-    ∷ frame (at 4294967200 (sent "st") ++ at 304 (sent "op")) 1
-    (record { reply = sent "stop"; orders = 1 ∷ []; unfinished = []; flags = 0; block = 0; field = 0; holds = 0 ∷ 0 ∷ 1 ∷ 1 ∷ 0 ∷ 0 ∷ [] })
+    ∷ frame (at 4294967200 (ascii "st") ++ at 304 (ascii "op")) 1
+    (record { reply = ascii "stop"; orders = 1 ∷ []; unfinished = []; flags = 0; block = 0; field = 0; holds = 0 ∷ 0 ∷ 1 ∷ 1 ∷ 0 ∷ 0 ∷ [] })
     -- "At 305: dropped, op unfinished."
-    ∷ frame (at 4294967200 (sent "st") ++ at 305 (sent "op")) 1
-    (record { reply = []; orders = []; unfinished = sent "op"; flags = 0; block = 0; field = 0; holds = 0 ∷ 0 ∷ 1 ∷ 1 ∷ 0 ∷ 0 ∷ [] })
+    ∷ frame (at 4294967200 (ascii "st") ++ at 305 (ascii "op")) 1
+    (record { reply = []; orders = []; unfinished = ascii "op"; flags = 0; block = 0; field = 0; holds = 0 ∷ 0 ∷ 1 ∷ 1 ∷ 0 ∷ 0 ∷ [] })
     ∷ []
 
 pub starred : Each cases
@@ -133,13 +127,13 @@ starred =
 
 -- st, what comes then, and op at the stamp t: the order stop is given, or only op is there, unfinished
 abbrev pub standstill : ℕ → List (Item Event) → ℕ → List (Item Event)
-standstill s between t = at s (sent "st") ++ (between ++ at t (sent "op"))
+standstill s between t = at s (ascii "st") ++ (between ++ at t (ascii "op"))
 
 abbrev pub stops : Outcome
-stops = record { reply = sent "stop"; orders = 1 ∷ []; unfinished = []; flags = 0; block = 0; field = 0; holds = 0 ∷ 0 ∷ 1 ∷ 1 ∷ 0 ∷ 0 ∷ [] }
+stops = record { reply = ascii "stop"; orders = 1 ∷ []; unfinished = []; flags = 0; block = 0; field = 0; holds = 0 ∷ 0 ∷ 1 ∷ 1 ∷ 0 ∷ 0 ∷ [] }
 
 abbrev pub halved : Outcome
-halved = record { reply = []; orders = []; unfinished = sent "op"; flags = 0; block = 0; field = 0; holds = 0 ∷ 0 ∷ 1 ∷ 1 ∷ 0 ∷ 0 ∷ [] }
+halved = record { reply = []; orders = []; unfinished = ascii "op"; flags = 0; block = 0; field = 0; holds = 0 ∷ 0 ∷ 1 ∷ 1 ∷ 0 ∷ 0 ∷ [] }
 
 abbrev pub reports : List Case
 reports =

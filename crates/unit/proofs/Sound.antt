@@ -13,11 +13,10 @@ use Rattle.settings.specs.declared.Settings.{Settings}
 use Rattle.settings.specs.Settings.{putAt, badAt, Good, allGood}
 use Rattle.settings.proofs.Keep.{store-other, all-good, good-all, good-fresh}
 use Rattle.rule.specs.Run.{at}
-use Rattle.rule.specs.Framing.{Token, whole, lost, seen}
+use Rattle.rule.specs.Framing.{begun, Token, whole, lost, seen}
 use Rattle.rule.specs.Rule.{Said, State}
 use Rattle.rule.specs.Step.{steps}
 use Rattle.rule.specs.Calls.{call}
-use Rattle.rule.specs.Facts.{Begun}
 use Rattle.rule.proofs.Calls.{call-steps}
 use Rattle.rule.proofs.Progress.{steps-begun, steps-keep}
 use Rattle.names.specs.Names.{kindAt, need}
@@ -27,7 +26,7 @@ use Rattle.names.specs.declared.Kind.the-variants.{Zero, Set, Get, Gives, Unkno
 use Rattle.names.proofs.Need.{need-some, need-law}
 use Rattle.unit.specs.Unit.{Event, does, gets, act}
 use Rattle.unit.specs.declared.Memory.{Memory}
-use Rattle.unit.specs.Protocol.{protocol, soundMemory, begun, soundState, freshState}
+use Rattle.unit.specs.Protocol.{protocol, soundMemory, soundState, freshState}
 use Rattle.unit.proofs.Replies.{puts-cases}
 
 -- ---- the tests of soundness, as facts
@@ -51,18 +50,27 @@ pub test : (m : Memory) → SoundMemory m → soundMemory m ≡ true
 unfolding soundMemory
 test m h = rw (le-leb (m .notes .flags) 7 (h .flags)) (good-all (m .settings) (h .good))
 
+-- no bytes are a true beginning
+pub none-begun : begun need [] ≡ true
+unfolding begun
+none-begun = lt-ltb 0 (need []) (need-some [])
+
 module _ (s : State Memory) where
+  is-begun : soundState s ≡ true → begun need (s .line .unfinished) ≡ true
+  unfolding soundState
+  is-begun h = both (begun need (s .line .unfinished)) (soundMemory (s .memory)) h .0
+
   pub sound-begun : soundState s ≡ true → length (s .line .unfinished) < need (s .line .unfinished)
-  unfolding soundState begun
-  sound-begun h = ltb-true (length (s .line .unfinished)) (need (s .line .unfinished)) (both (begun (s .line .unfinished)) (soundMemory (s .memory)) h .0)
+  unfolding begun
+  sound-begun h = ltb-true (length (s .line .unfinished)) (need (s .line .unfinished)) (is-begun h)
 
   pub sound-memory : soundState s ≡ true → SoundMemory (s .memory)
   unfolding soundState
-  sound-memory h = facts (s .memory) (both (begun (s .line .unfinished)) (soundMemory (s .memory)) h .1)
+  sound-memory h = facts (s .memory) (both (begun need (s .line .unfinished)) (soundMemory (s .memory)) h .1)
 
-  pub sound-from : Begun protocol s → SoundMemory (s .memory) → soundState s ≡ true
-  unfolding soundState begun
-  sound-from h k = rw (lt-ltb (length (s .line .unfinished)) (need (s .line .unfinished)) h) (test (s .memory) k)
+  pub sound-from : begun need (s .line .unfinished) ≡ true → SoundMemory (s .memory) → soundState s ≡ true
+  unfolding soundState
+  sound-from h k = rw h (test (s .memory) k)
 
 -- ---- a unit
 
@@ -105,12 +113,12 @@ act-sound m (seen e) h = h
 -- ---- a state
 
 pub fresh-sound : soundState freshState ≡ true
-fresh-sound = sound-from freshState (need-some []) (record { flags = omega arith; good = good-fresh })
+fresh-sound = sound-from freshState none-begun (record { flags = omega arith; good = good-fresh })
 
 -- bytes that share a stamp keep a sound state sound
 pub steps-sound : (s : State Memory) (t : ℕ) (u : List ℕ) → soundState s ≡ true → soundState (steps protocol s (at t u) .next) ≡ true
 steps-sound s t u h =
-    sound-from _ (steps-begun protocol need-law t u s (sound-begun s h)) (steps-keep protocol SoundMemory act-sound (at t u) s (sound-memory s h))
+    sound-from _ (steps-begun protocol need-law t u s (is-begun s h)) (steps-keep protocol SoundMemory act-sound (at t u) s (sound-memory s h))
 
 -- A CALL KEEPS A SOUND STATE SOUND
 pub call-sound : (verdict : ℕ) (s : State Memory) (t room : ℕ) (piece : List ℕ) → soundState s ≡ true

@@ -1,11 +1,11 @@
 -- This protocol, as the rule and a call take it. In quotation marks, where nothing else is said: sheet 01, "One call".
 use mathlib.Core.Bool.{Bool, false, cond}
-use mathlib.Core.List.{List, []}
+use mathlib.Core.List.{[]}
 use Prim.Native.Nat.{ℕ}
-use lib.Dec.{leb, ltb}
-use lib.ListN.{length}
+use lib.Dec.{leb}
 use Rattle.settings.specs.Settings.{allGood}
 use Rattle.rule.specs.Run.{late}
+use Rattle.rule.specs.Framing.{begun}
 use Rattle.rule.specs.Rule.{State, Protocol}
 use Rattle.sheet.specs.Lengths.{longestFrame, longestPiece}
 use Rattle.names.specs.Names.{need}
@@ -21,14 +21,10 @@ cutBy last (clock now) = late now last
 unfoldable pub soundMemory : Memory → Bool
 soundMemory m = cond (leb (m .notes .flags) 7) (allGood (m .settings)) false
 
--- "its unfinished bytes are none or a true beginning of one unit (first byte not zero; from four bytes on, the name of a set, and fewer bytes
--- than its block's total)"
-unfoldable pub begun : List ℕ → Bool
-begun u = ltb (length u) (need u)
-
--- "A state is sound when .."
+-- "A state is sound when its unfinished bytes are none or a true beginning of one unit (first byte not zero; from four bytes on, the name of a set,
+-- and fewer bytes than its block's total), every field lies in its range, .."
 unfoldable pub soundState : State Memory → Bool
-soundState s = cond (begun (s .line .unfinished)) (soundMemory (s .memory)) false
+soundState s = cond (begun need (s .line .unfinished)) (soundMemory (s .memory)) false
 
 abbrev pub protocol : Protocol Event Order Memory
 protocol = record { cuts = cutBy; need = need; act = act; longestPiece = longestPiece; leastRoom = longestFrame }

@@ -9,9 +9,16 @@ use lib.Dec.{lit<}
 use lib.ListN.{length, getD, take, drop, replicate, length-append, drop-of-length-le}
 use lib.Seq.{sets, length-sets, getD-at, getD-drop, drop-cons, drop-drop, take-add}
 use Rattle.wire.specs.Numbers.{leAt, leBytes}
-use Rattle.wire.specs.Layout.{numbers, laid, sum, Room}
+use Rattle.wire.specs.Layout.{numbers, laid, sum}
 use Rattle.wire.proofs.Numbers.{length-leBytes, leBytes-zero, leBytes-low, append-low, leAt-lt, leAt-append, leAt-take, leAt-leBytes, leBytes-leAt}
 use Rattle.wire.proofs.Stores.{sets-append, sets-past}
+
+-- as many numbers as widths, and each has room in its width
+abbrev pub Room : List ℕ → List ℕ → Type 0
+Room [] [] = Unit
+Room [] (v ∷ vs) = ⊥
+Room (w ∷ ws) [] = ⊥
+Room (w ∷ ws) (v ∷ vs) = (v < 256 ^ w) × Room ws vs
 
 pub length-laid : (ws vs : List ℕ) → length (laid ws vs) ≡ sum ws
 unfolding laid

@@ -1,6 +1,6 @@
 -- Numbers one behind the other, each in its width in bytes: how 01's table lays the fields of a data section.
 use mathlib.Core.List.{List, [], _∷_, _++_}
-use Prim.Native.Nat.{ℕ, _+_, _^_, _<_}
+use Prim.Native.Nat.{ℕ, _+_}
 use lib.ListN.{getD, drop}
 use Rattle.wire.specs.Numbers.{leAt, leBytes}
 
@@ -18,10 +18,3 @@ laid (w ∷ ws) vs = leBytes w (getD vs 0 0) ++ laid ws (drop 1 vs)
 abbrev pub sum : List ℕ → ℕ
 sum [] = 0
 sum (w ∷ ws) = w + sum ws
-
--- as many numbers as widths, and each has room in its width
-abbrev pub Room : List ℕ → List ℕ → Type 0
-Room [] [] = Unit
-Room [] (v ∷ vs) = ⊥
-Room (w ∷ ws) [] = ⊥
-Room (w ∷ ws) (v ∷ vs) = (v < 256 ^ w) × Room ws vs
