@@ -22,6 +22,7 @@ use Rattle.unit.specs.Protocol.{protocol, soundState}
 use Rattle.unit.specs.declared.Memory.{Memory}
 use Rattle.unit.proofs.Sound.{none-begun, sound-memory, sound-from}
 use Rattle.clock.specs.Clock.{overdue, dropped, clocked}
+use Rattle.clock.specs.Timely.{NoneOverdue, onlyBytes}
 
 -- THE RULE'S EVENT: "it is dropped; the last stamp stays", without a word
 pub clock-step : (s : State Memory) (now : ℕ) → step protocol s (event (clock now)) ≡ quiet (clocked s now)
@@ -64,16 +65,6 @@ module _ (m : Memory) (last now : ℕ) (q r : List (Item Event)) where
       ∙ sym (steps-append protocol q r start) ∙ steps-is-whole protocol need-law m last (q ++ r))
 
 -- any number of reports, none of them overdue where it comes: the run says and leaves what its bytes alone do
-abbrev pub NoneOverdue : State Memory → List (Item Event) → Type 0
-NoneOverdue s [] = Unit {0}
-NoneOverdue s (byte t b ∷ r) = NoneOverdue (step protocol s (byte t b) .next) r
-NoneOverdue s (event (clock now) ∷ r) = (overdue s now ≡ false) × NoneOverdue s r
-
-abbrev pub onlyBytes : List (Item Event) → List (Item Event)
-onlyBytes [] = []
-onlyBytes (byte t b ∷ r) = byte t b ∷ onlyBytes r
-onlyBytes (event e ∷ r) = onlyBytes r
-
 pub none-overdue : (r : List (Item Event)) (s : State Memory) → NoneOverdue s r → steps protocol s r ≡ steps protocol s (onlyBytes r)
 unfolding steps
 none-overdue [] s h = refl

@@ -24,7 +24,8 @@ use Rattle.unit.specs.declared.Memory.{Memory}
 use Rattle.state.specs.State.{boardOf}
 use Rattle.state.specs.declared.Board.{Board}
 use Rattle.state.proofs.fresh.Reads as fresh
-use Rattle.clock.proofs.Clock.{NoneOverdue, onlyBytes, none-overdue}
+use Rattle.clock.specs.Timely.{NoneOverdue, onlyBytes}
+use Rattle.clock.proofs.Clock.{none-overdue}
 use Rattle.demands.specs.Runs.{onBoard, Offered}
 use Rattle.demands.proofs.Runs.{offered-steps}
 use Rattle.host.specs.declared.Block.{Block}

@@ -16,6 +16,7 @@ use Rattle.board.specs.declared.Answer.{Answer as FlatCall}
 use Rattle.host.specs.Names.{blockNumber, blockAt, orderAt, orderNumber as numberOf}
 use Rattle.host.specs.declared.Block.{Block}
 use Rattle.host.specs.declared.Order as host
+use Rattle.host.specs.declared.Order.the-variants.{Stop, Sstp, Pwof, Left, Rigt, Home, Loft}
 use Rattle.host.specs.declared.FoundBlock.the-variants as block
 use Rattle.host.specs.declared.FoundOrder.the-variants as order
 use Rattle.host.proofs.Numbered.{block-back, order-back}
@@ -36,7 +37,7 @@ use Rattle.optimiser.specs.Flat.{getAsked, setAsked, orderAsked, flatWritten, n
 use Rattle.optimiser.specs.declared.FlatWritten.{FlatWritten}
 use Rattle.optimiser.specs.declared.FlatAnswer.{FlatAnswer}
 use Rattle.optimiser.proofs.Flats as flats
-use Rattle.link.specs.Book.{bookOf, answersTo}
+use Rattle.link.specs.Book.{bookOf, answersTo, givenBy, ordersOf}
 use Rattle.link.specs.Types.{TypedBoard}
 use Rattle.link.specs.Asking as link
 use Rattle.link.specs.Asking.{Writing, Reads, Ready, Sendable}
@@ -44,7 +45,7 @@ use Rattle.link.proofs.Sessions.{wrote, has-read, write-some, read-some, asked-
 use Rattle.link.proofs.Types.{fresh-typed}
 use Rattle.linked.specs.Board.{Starts, saidBy}
 use Rattle.linked.specs.Board as board
-use Rattle.linked.specs.Host.{WritesGet, WritesSet, WritesOrder, ReadsFlat, allowed, Asks, get, set, give, Asked, none, ask, NoRefusal, ReadOff, one, AnswerForAnswer, Served}
+use Rattle.linked.specs.Host.{WritesGet, WritesSet, WritesOrder, ReadsFlat, allowed, Asks, get, set, give, Asked, none, ask, NoRefusal, ReadOff, one, AnswerForAnswer, numbersAsked, Served}
 use Rattle.linked.proofs.Board.{receives, receives-all, given-numbers}
 
 -- ---- what each contract says
@@ -191,6 +192,22 @@ answers-flat (y ∷ ys) (a ∷ rest) h = (
   answers-flat ys rest (h .1),
 )
 
+-- AN ORDER'S NUMBER IS ONE AT BOTH ENDS: the board gives by its number what the host asked for by its own
+pub number-given : (o : host.Order) → orderNumber (givenBy o) ≡ numberOf o
+number-given Stop = refl
+number-given Sstp = refl
+number-given Pwof = refl
+number-given Left = refl
+number-given Rigt = refl
+number-given Home = refl
+number-given Loft = refl
+
+numbers-given : (qs : List Request) → map orderNumber (ordersOf qs) ≡ numbersAsked qs
+numbers-given [] = refl
+numbers-given (Get b ∷ qs) = numbers-given qs
+numbers-given (Set f ∷ qs) = numbers-given qs
+numbers-given (Give o ∷ qs) = λ i. number-given o i ∷ numbers-given qs i
+
 -- THE SEQUENCE OF P1, of what C and Rust link: on any board that is ready and whose fields fit their types
 pub asked-served : {b end : Board} {qs : List Request} {reply orders : List ℕ} (asked : Asked b qs reply orders end) → Ready b → TypedBoard b
     → Served (bookOf (b .memory .settings)) asked
@@ -200,7 +217,7 @@ asked-served {b = b} {qs = qs} asked can fit =
     let answers = answersTo (bookOf (b .memory .settings)) qs in
     record {
       accepted = x .3 (asked-accepted is can);
-      ordered = x .2 ∙ ap (map orderNumber) (asked-orders is can);
+      ordered = x .2 ∙ ap (map orderNumber) (asked-orders is can) ∙ numbers-given qs;
       answered =
           λ off e.
           let y = off-is off in

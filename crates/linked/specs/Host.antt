@@ -1,14 +1,13 @@
 -- The host's functions as C and Rust link them: what their contracts allow, and requests asked of a board by them. In quotation marks: sheet 02, P1.
 use Prim.Native.Nat.{ℕ, _≤_}
 use mathlib.Core.Path.{_≡_}
-use mathlib.Core.List.{List, [], _∷_, _++_, map}
+use mathlib.Core.List.{List, [], _∷_, _++_}
 use denote.Ref.{now}
 use lib.ListN.{length, take, drop}
-use Rattle.names.specs.Names.{orderNumber}
 use Rattle.unit.specs.Protocol.{protocol}
 use Rattle.state.specs.declared.Board.{Board}
 use Rattle.board.specs.declared.Answer.{Answer as Call}
-use Rattle.host.specs.Names.{blockAt, orderAt}
+use Rattle.host.specs.Names.{blockAt, orderAt, orderNumber}
 use Rattle.host.specs.declared.Block.{Block}
 use Rattle.host.specs.declared.Order.{Order}
 use Rattle.host.specs.declared.FoundBlock.the-variants as block
@@ -26,7 +25,7 @@ use Rattle.optimiser.proofs.rivertosku_write_get.Reads as write-get
 use Rattle.optimiser.proofs.rivertosku_write_set.Reads as write-set
 use Rattle.optimiser.proofs.rivertosku_write_order.Reads as write-order
 use Rattle.optimiser.proofs.rivertosku_read.Reads as read
-use Rattle.link.specs.Book.{Book, bookOf, notedAll, answersTo, ordersOf}
+use Rattle.link.specs.Book.{Book, bookOf, notedAll, answersTo}
 use Rattle.link.specs.Types.{TypedIn, TypedBoard}
 use Rattle.link.specs.Asking.{Ready}
 use Rattle.linked.specs.Board.{Receives, saidBy}
@@ -84,12 +83,19 @@ AnswerForAnswer [] (a ∷ rest) = ⊥
 AnswerForAnswer (x ∷ xs) [] = ⊥
 AnswerForAnswer (x ∷ xs) (a ∷ rest) = (x ≡ flatRead (answerOf (x .size) a)) × AnswerForAnswer xs rest
 
+-- the numbers of the orders that are asked for
+abbrev pub numbersAsked : List Request → List ℕ
+numbersAsked [] = []
+numbersAsked (Get b ∷ qs) = numbersAsked qs
+numbersAsked (Set f ∷ qs) = numbersAsked qs
+numbersAsked (Give o ∷ qs) = orderNumber o ∷ numbersAsked qs
+
 -- THE SEQUENCE of P1, on a board whose blocks were as in the book: no request is refused, each order is given, in sequence, the replies are read back,
 -- answer for answer, to the last byte, each block holds what the requests leave in it, flags and last refused field stay, and the board can be asked
 -- again
 pub record Served (book : Book) {b end : Board} {qs : List Request} {reply orders : List ℕ} (asked : Asked b qs reply orders end) : Type 0 where
   pub accepted : NoRefusal asked
-  pub ordered : orders ≡ map orderNumber (ordersOf qs)
+  pub ordered : orders ≡ numbersAsked qs
   pub answered : {xs : List FlatAnswer} {rest : List ℕ} → ReadOff reply xs rest → length xs ≡ length qs → AnswerForAnswer xs (answersTo book qs) × (rest ≡ [])
   pub blocks : (c : Block) → bookOf (end .memory .settings) c ≡ notedAll book qs c
   pub notes : end .memory .notes ≡ b .memory .notes
