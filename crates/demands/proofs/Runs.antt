@@ -3,16 +3,19 @@
 use Prim.Native.Nat.{ℕ, _<_}
 use mathlib.Core.Path.{_≡_, refl, ap, sym, subst, _∙_}
 use mathlib.Core.Bool.{Bool, true, false, cond}
-use mathlib.Core.List.{List, [], _∷_, _++_, append-nil}
+use mathlib.Core.List.{List, [], _∷_, _++_}
 use native.Mathlib.Omega.{arith}
 use lib.Dec.{eqb}
 use lib.ListN.{length, getD, take, drop, replicate}
+use lib.Seq.{take-append-seam, drop-append-seam}
 use borrow.Author.Tests.{eqb-true, eqb-false}
+use Rattle.wire.specs.Numbers.{leBytes}
 use Rattle.frame.specs.Frame.{dataIn}
 use Rattle.sheet.specs.Lengths.{longestFrame}
 use Rattle.sheet.specs.Rows.{rowAt, canonical}
+use Rattle.sheet.specs.Sheet.{setTable}
 use Rattle.rule.specs.Run.{Item, byte, event, bytes, at}
-use Rattle.rule.specs.Framing.{Token, whole, unitsOf}
+use Rattle.rule.specs.Framing.{Token, whole}
 use Rattle.rule.specs.Rule.{Said, quiet, then, State, deal, wholeRun}
 use Rattle.rule.specs.Step.{steps}
 use Rattle.rule.specs.Calls.{Called, call}
@@ -24,15 +27,18 @@ use Rattle.rule.proofs.Steps.{steps-append, steps-is-whole}
 use Rattle.rule.proofs.Calls.{call-steps}
 use Rattle.rule.proofs.Bytes.{units-bytes}
 use Rattle.rule.proofs.Numbered.{call-accepted}
-use Rattle.names.specs.Names.{given, kindAt}
+use Rattle.names.specs.Names.{given, kindAt, nameIn}
 use Rattle.names.specs.declared.Order.{Order}
-use Rattle.names.specs.declared.Kind.the-variants.{Get}
+use Rattle.names.specs.declared.Kind.{Kind}
+use Rattle.names.specs.declared.Kind.the-variants.{Set, Get}
 use Rattle.names.proofs.Need.{need-law}
-use Rattle.unit.specs.Unit.{Event, clock, freshMemory, act}
+use Rattle.unit.specs.Unit.{Event, clock, freshMemory, does, act}
 use Rattle.unit.specs.Protocol.{protocol, freshState}
 use Rattle.unit.specs.Kept.{Refused, Echoed, Without, getReply, FlagsStay}
 use Rattle.unit.specs.declared.Memory.{Memory}
-use Rattle.unit.proofs.Kept.{refused-keeps}
+use Rattle.unit.proofs.Kept.{refused-set-keeps}
+use Rattle.unit.proofs.Settings.{settings-alone}
+use Rattle.unit.proofs.Replies.{does-length}
 use Rattle.unit.proofs.Flags.{flags-stay}
 use Rattle.unit.proofs.Runs.{run-get-after-set}
 use Rattle.state.specs.State.{stateOf, boardOf}
@@ -49,8 +55,8 @@ use Rattle.clock.proofs.Reports.{clocked-state}
 use Rattle.receiver.specs.Receive.{answer}
 use Rattle.receiver.proofs.Calls.{call-order, accept-some}
 use Rattle.demands.specs.Calls.{Answers}
-use Rattle.demands.specs.Reports.{Reports}
-use Rattle.demands.specs.Runs.{saidBy, inState, onBoard, heard, Step, called, told, OfferedBy, done, next, Offered}
+use Rattle.demands.specs.Reports.{Reports, Tells, time}
+use Rattle.demands.specs.Runs.{saidBy, inState, onBoard, heard, tokensOf, memoryBehind, wordBehind, Step, called, told, OfferedBy, done, next, Offered}
 use Rattle.demands.proofs.Calls.{promise, rules, is-taken, is-order, is-state, written-is, keeps-sound, receive-some}
 use Rattle.demands.proofs.Reports.{report-promise, report-numbered, report-refused, report-accepted, report-keeps-sound, report-some}
 
@@ -85,7 +91,7 @@ module _ {b : Board} {now : ℕ} {r : Report} (got : Reports b now r) where
 
 step-steps : {b : Board} {items : List (Item Event)} {y : Said Order Board} → Step b items y → inState y ≡ steps protocol (stateOf b) items
 step-steps (called got) = got-steps got
-step-steps (told got) = told-steps got
+step-steps (told (time got)) = told-steps got
 
 -- EVERY OFFERED RUN says and leaves what the byte steps over it do, from whatever board
 pub offered-state : {b : Board} {run : List (Item Event)} {x : Said Order Board} → Offered b run x → inState x ≡ steps protocol (stateOf b) run
@@ -107,7 +113,7 @@ tidy-board s = ap boardOf (sym (state-board s))
 step-tidy : {b : Board} {items : List (Item Event)} {y : Said Order Board} → Step b items y → Tidy b → Tidy (y .next)
 step-tidy {b} (called got) tidy =
     subst Tidy (ap (λ (z : Call). z .board) (sym (promise got .result))) (either Tidy (eqb (rules got .taken) 0) b _ tidy (tidy-board (rules got .said .next)))
-step-tidy {b} (told {now = now} got) tidy =
+step-tidy {b} (told (time {now} got)) tidy =
     subst Tidy (ap (λ (z : Report). z .board) (sym (report-promise got)))
     (either Tidy (eqb (refusalOf b) 0) _ b (either Tidy (overdue (stateOf b) now) _ b (tidy-board (dropped (stateOf b))) tidy) tidy)
 
@@ -134,26 +140,23 @@ module _ {b : Board} {run : List (Item Event)} {x : Said Order Board} (h : Offer
       offered-state h ∙ ap (λ (n : ℕ). steps protocol (stateAt (b .memory) (take n (b .held)) (b .stamp)) run) idle
       ∙ steps-is-whole protocol need-law (b .memory) (b .stamp) run
 
-  -- the tokens of the run, and what they say
-  abbrev pub tokens : List (Token Event)
-  tokens = unitsOf (protocol .cuts) (protocol .need) run .tokens
-
-  dealt : (x .reply ≡ deal protocol (b .memory) tokens .reply) × (x .next .memory ≡ deal protocol (b .memory) tokens .next)
+  -- by the tokens of the run
+  dealt : (x .reply ≡ deal protocol (b .memory) (tokensOf run) .reply) × (x .next .memory ≡ memoryBehind (b .memory) (tokensOf run))
   unfolding wholeRun
   dealt = (ap (λ (y : Said Order (State Memory)). y .reply) any-cutting, ap (λ (y : Said Order (State Memory)). y .next .memory) any-cutting)
 
   -- no byte is lost or invented: the run is the bytes of the units that were dealt with or dropped, in sequence, and then "Bytes of an unfinished unit
   -- at the end of the run stay unfinished", on the board at the end
-  pub conserved : bytes run ≡ spent tokens ++ take (x .next .count) (x .next .held)
+  pub conserved : bytes run ≡ spent (tokensOf run) ++ take (x .next .count) (x .next .held)
   unfolding wholeRun
   conserved =
       units-bytes (protocol .cuts) (protocol .need) need-law run
-      ∙ ap (λ (y : Said Order (State Memory)). spent tokens ++ y .next .line .unfinished) (sym any-cutting)
+      ∙ ap (λ (y : Said Order (State Memory)). spent (tokensOf run) ++ y .next .line .unfinished) (sym any-cutting)
 
-  -- a unit u of the run, behind the tokens `before`: the memory m that it meets, and its answer a
-  module _ (before after : List (Token Event)) (u : List ℕ) (cut : tokens ≡ before ++ whole u ∷ after) where
+  -- a unit u of the run, behind the tokens `before`: what it meets, and its answer
+  module _ (before after : List (Token Event)) (u : List ℕ) (cut : tokensOf run ≡ before ++ whole u ∷ after) where
     abbrev pub m : Memory
-    m = deal protocol (b .memory) before .next
+    m = memoryBehind (b .memory) before
 
     abbrev pub a : Said Order Memory
     a = act m (whole u)
@@ -167,26 +170,36 @@ module _ {b : Board} {run : List (Item Event)} {x : Said Order Board} (h : Offer
     unfolding deal
     goes-on = dealt .1 ∙ ap (λ (ks : List (Token Event)). deal protocol (b .memory) ks .next) cut ∙ ap (λ (y : Said Order Memory). y .next) (deal-append protocol before (whole u ∷ after) (b .memory))
 
-    -- Demand 1: "A command refused on the wire (errc, errd, errv) alters no setting."
-    pub refused-alters-none : Refused (a .reply) → a .next .settings ≡ m .settings
-    refused-alters-none r = refused-keeps m u r
+    -- where it is a set, what is heard there is its reply, whole
+    heard-is : (k : ℕ) → kindAt u ≡ Set k → wordBehind (b .memory) before (x .reply) ≡ a .reply
+    unfolding act
+    heard-is k e =
+        let long : length (a .reply) ≡ 4 = ap (λ (κ : Kind). length (does m u κ .reply)) e ∙ does-length m u (Set k) in
+        let more = deal protocol (a .next) after .reply in
+        ap (λ (r : List ℕ). take 4 (drop (length (deal protocol (b .memory) before .reply)) r)) answered
+        ∙ ap (take 4) (drop-append-seam (deal protocol (b .memory) before .reply) (a .reply ++ more))
+        ∙ ap (λ (n : ℕ). take n (a .reply ++ more)) (sym long) ∙ take-append-seam (a .reply) more
 
-  -- of boards: a run that holds one unit, whose reply is a refusal, leaves the settings that it found
-  pub refused-alone : (u : List ℕ) → tokens ≡ whole u ∷ [] → Refused (x .reply) → x .next .memory .settings ≡ b .memory .settings
-  unfolding deal
-  refused-alone u cut r =
-      let reply : x .reply ≡ act (b .memory) (whole u) .reply = answered [] [] u cut ∙ append-nil _ in
-      ap (λ (y : Memory). y .settings) (goes-on [] [] u cut) ∙ refused-alters-none [] [] u cut (subst Refused reply r)
+    -- Demand 1: "A command refused on the wire (errc, errd, errv) alters no setting.": a unit at whose place a refusal is heard leaves all settings
+    -- as they were before it, and at the end they are those of the run without it
+    pub refused-alters-none : Refused (wordBehind (b .memory) before (x .reply))
+        → (a .next .settings ≡ m .settings) × (x .next .memory .settings ≡ memoryBehind (b .memory) (before ++ after) .settings)
+    refused-alters-none r =
+        let keeps : a .next .settings ≡ m .settings = refused-set-keeps m u (λ k e. subst Refused (heard-is k e) r) in
+        let without = ap (λ (y : Said Order Memory). y .next .settings) (deal-append protocol before after (b .memory)) in
+        (keeps, ap (λ (y : Memory). y .settings) goes-on ∙ settings-alone after (a .next) m keeps ∙ sym without)
 
   -- Demand 2: "After an accepted set, the get of that block returns the same fields, reserved bytes zero, until the next accepted set of that block":
-  -- in a run of bytes, the set u, which was answered with its own name, then the get g of its block with no set of the block so answered between them
+  -- in a run of bytes, the set u, at whose place its own name is heard, then the get g of its block with no set of the block so answered between
   pub get-after-set : (before between after : List (Token Event)) (u g : List ℕ) (k : ℕ) → ((i : ℕ) → getD (bytes run) i 0 < 256)
-      → tokens ≡ before ++ (whole u ∷ between ++ (whole g ∷ after))
-      → let m = deal protocol (b .memory) before .next in Echoed m u k → Without k (act m (whole u) .next) between
+      → tokensOf run ≡ before ++ (whole u ∷ between ++ (whole g ∷ after))
+      → kindAt u ≡ Set k → wordBehind (b .memory) before (x .reply) ≡ leBytes 4 (nameIn setTable k)
+      → Without k (act (memoryBehind (b .memory) before) (whole u) .next) between
       → kindAt g ≡ Get k
       → let y = deal protocol (b .memory) (before ++ (whole u ∷ between)) in
       x .reply ≡ y .reply ++ (getReply k (canonical (rowAt k) (dataIn u)) ++ deal protocol (y .next) after .reply)
-  get-after-set before between after u g k low cut e w get =
+  get-after-set before between after u g k low cut set word w get =
+      let e : Echoed (memoryBehind (b .memory) before) u k = record { kind = set; reply = sym (heard-is before (between ++ (whole g ∷ after)) u cut k set) ∙ word } in
       ap (λ (y : Said Order (State Memory)). y .reply) any-cutting ∙ run-get-after-set (b .memory) (b .stamp) run before between after u g k low cut e w get
 
 -- "Flags stay set until a fresh board." (01): over any offered run, and so over one call and over one report
@@ -219,6 +232,12 @@ module _ (b : Board) (t x : ℕ) (sound : soundBoard b ≡ true) where
       let front : byte t x ∷ run ≡ at t (take (one .taken) (x ∷ [])) ++ run = ap (λ (k : ℕ). at t (take k (x ∷ [])) ++ run) (sym one-taken) in
       (_, next b _ run (byte t x ∷ run) _ y (called (receive-some b t (x ∷ []) room)) h front)
 
+-- one report, which a sound board hears
+tells-some : (e : Event) (b : Board) → soundBoard b ≡ true → (after : Board) × Tells b e 0 after × (soundBoard after ≡ true)
+tells-some (clock now) b h =
+    let got = report-some b now in
+    (reported b now .board, subst (λ (n : ℕ). Tells b (clock now) n (reported b now .board)) (refusal-none b h) (time got), report-keeps-sound got h)
+
 -- Demand 3 speaks of every run: "With a piece that is not empty, an accepted call takes at least one byte", and a sound board hears each report, so
 -- each run can be offered to its end
 pub offerable : (run : List (Item Event)) (b : Board) → soundBoard b ≡ true → (x : Said Order Board) × Offered b run x
@@ -226,15 +245,14 @@ offerable [] b h = (quiet b, done b)
 offerable (byte t x ∷ run) b h =
     let rest = offerable run (answer b (one b t x h) .board) (keeps-sound (receive-some b t (x ∷ []) (room b t x h)) h) in
     one-more b t x h run (rest .0) (rest .1)
-offerable (event (clock now) ∷ run) b h =
-    let got = report-some b now in
-    let rest = offerable run (reported b now .board) (report-keeps-sound got h) in
-    let heard-it : event (clock now) ∷ run ≡ heard (refusalOf b) (clock now) ++ run = rw h in
-    (_, next b _ run (event (clock now) ∷ run) _ (rest .0) (told got) (rest .1) heard-it)
+offerable (event e ∷ run) b h =
+    let got = tells-some e b h in
+    let rest = offerable run (got .0) (got .2) in
+    (_, next b _ run (event e ∷ run) _ (rest .0) (told (got .1)) (rest .1) refl)
 
--- a call that stops, then the time, then the untaken rest of its piece: offered as they came, one cutting of the run that has them in that order
-pub report-between : (b : Board) (t now : ℕ) (p before after : List ℕ) (r : Call) (q : Report) (run : List (Item Event)) (x : Said Order Board)
-    → Answers b t p before r after → Reports (r .board) now q → Offered (q .board) (at t (drop (r .taken) p) ++ run) x
-    → Offered b (at t (take (r .taken) p) ++ (heard (q .number) (clock now) ++ (at t (drop (r .taken) p) ++ run))) (then (saidBy r after) (then (quiet (q .board)) x))
-report-between b t now p before after r q run x got report h =
+-- a call that stops, then a report, then the untaken rest of its piece: offered as they came, one cutting of the run that has them in that order
+pub report-between : (b c : Board) (t number : ℕ) (e : Event) (p before after : List ℕ) (r : Call) (run : List (Item Event)) (x : Said Order Board)
+    → Answers b t p before r after → Tells (r .board) e number c → Offered c (at t (drop (r .taken) p) ++ run) x
+    → Offered b (at t (take (r .taken) p) ++ (heard number e ++ (at t (drop (r .taken) p) ++ run))) (then (saidBy r after) (then (quiet c) x))
+report-between b c t number e p before after r run x got report h =
     next b _ _ _ _ _ (called got) (next (r .board) _ (at t (drop (r .taken) p) ++ run) _ _ x (told report) h refl) refl

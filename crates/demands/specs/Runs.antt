@@ -4,19 +4,20 @@ use mathlib.Core.Path.{_≡_}
 use mathlib.Core.Bool.{cond}
 use mathlib.Core.List.{List, [], _∷_, _++_}
 use lib.Dec.{eqb}
-use lib.ListN.{take}
+use lib.ListN.{length, take, drop}
 use Rattle.rule.specs.Run.{Item, event, at}
-use Rattle.rule.specs.Rule.{Said, quiet, then, State}
+use Rattle.rule.specs.Framing.{Token, unitsOf}
+use Rattle.rule.specs.Rule.{Said, quiet, then, State, deal}
 use Rattle.names.specs.Names.{given}
 use Rattle.names.specs.declared.Order.{Order}
-use Rattle.unit.specs.Unit.{Event, clock}
+use Rattle.unit.specs.Unit.{Event}
+use Rattle.unit.specs.Protocol.{protocol}
 use Rattle.unit.specs.declared.Memory.{Memory}
 use Rattle.state.specs.State.{stateOf, boardOf}
 use Rattle.state.specs.declared.Board.{Board}
 use Rattle.state.specs.declared.Call.{Call}
-use Rattle.clock.specs.declared.Report.{Report}
 use Rattle.demands.specs.Calls.{Answers}
-use Rattle.demands.specs.Reports.{Reports}
+use Rattle.demands.specs.Reports.{Tells}
 
 -- what an answer says: the bytes written in the buffer, its order, and the next board
 abbrev pub saidBy : Call → List ℕ → Said Order Board
@@ -34,12 +35,24 @@ onBoard w = record { reply = w .reply; orders = w .orders; next = boardOf (w .ne
 abbrev pub heard : ℕ → Event → List (Item Event)
 heard number e = cond (eqb number 0) (event e ∷ []) []
 
+-- what the rule finds in a run, in sequence: units, what a wait dropped, and events
+abbrev pub tokensOf : List (Item Event) → List (Token Event)
+tokensOf run = unitsOf (protocol .cuts) (protocol .need) run .tokens
+
+-- the memory behind these tokens
+abbrev pub memoryBehind : Memory → List (Token Event) → Memory
+memoryBehind m before = deal protocol m before .next
+
+-- the four bytes of the replies that stand behind those of these tokens: there the next unit's echo or refusal is heard
+abbrev pub wordBehind : Memory → List (Token Event) → List ℕ → List ℕ
+wordBehind m before reply = take 4 (drop (length (deal protocol m before .reply)) reply)
+
 -- ONE STEP OF A MAIN LOOP at the board b: what it adds to the run, what is said, and the next board. Each answer is whatever its contract allows
 pub data Step : Board → List (Item Event) → Said Order Board → Type 0 where
   -- a call takes bytes that share a stamp: all of its piece, some, or none where it is empty or refused
   called : {b : Board} {t : ℕ} {p before after : List ℕ} {r : Call} → Answers b t p before r after → Step b (at t (take (r .taken) p)) (saidBy r after)
-  -- "The main loop may report the time at any moment, as an event of its own."
-  told : {b : Board} {now : ℕ} {r : Report} → Reports b now r → Step b (heard (r .number) (clock now)) (quiet (r .board))
+  -- "The main loop may report the time at any moment, as an event of its own.": a report of whatever kind
+  told : {b next : Board} {e : Event} {number : ℕ} → Tells b e number next → Step b (heard number e) (quiet next)
 
 -- A RUN OFFERED in some cutting by steps of one kind, from the board b to its end, and what was said. What a call leaves of its piece is offered
 -- later, as the run has it: at once, or behind reports

@@ -40,7 +40,7 @@ use Rattle.clock.specs.Clock.{overdue, dropped}
 use Rattle.clock.specs.declared.Report.{Report}
 use Rattle.demands.specs.Calls.{Answers}
 use Rattle.demands.proofs.Calls.{is-taken, is-state}
-use Rattle.demands.specs.Reports.{Reports}
+use Rattle.demands.specs.Reports.{Reports, time}
 use Rattle.demands.proofs.Reports.{report-promise}
 use Rattle.demands.specs.Runs.{Step, called, told, Offered, done, next}
 use Rattle.host.specs.Names.{rowOf, blockNumber}
@@ -121,7 +121,7 @@ report-typed {b} {now} {r} got h =
 
 step-typed : {b : Board} {items : List (Item Event)} {y : Said Order Board} → Step b items y → OfBytes (bytes items) → TypedBoard b → TypedBoard (y .next)
 step-typed (called {t = t} {p = p} {r = r} got) low h = call-typed got (subst OfBytes (bytes-at Event t (take (r .taken) p)) low) h
-step-typed (told got) low h = report-typed got h
+step-typed (told (time got)) low h = report-typed got h
 
 -- so over any run, in any cutting
 pub run-typed : {b : Board} {run : List (Item Event)} {x : Said Order Board} → Offered b run x → OfBytes (bytes run) → TypedBoard b → TypedBoard (x .next)

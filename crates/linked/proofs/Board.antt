@@ -21,6 +21,7 @@ use Rattle.state.specs.declared.Call.{Call}
 use Rattle.clock.specs.declared.Report.{Report}
 use Rattle.receiver.specs.Receive.{answer}
 use Rattle.demands.specs.Calls.{Answers}
+use Rattle.demands.specs.Reports as reports
 use Rattle.demands.specs.Reports.{Reports}
 use Rattle.demands.specs.Runs as runs
 use Rattle.demands.specs.Runs.{onBoard, done, next}
@@ -29,7 +30,7 @@ use Rattle.demands.proofs.Reports.{report-promise, report-some}
 use Rattle.demands.proofs.Runs.{from-fresh}
 use Rattle.board.specs.Answer.{flat}
 use Rattle.board.specs.declared.Answer.{Answer}
-use Rattle.linked.specs.Board.{Starts, Receives, Hears, allowed, saidBy, numbered, Step, called, told, Offered}
+use Rattle.linked.specs.Board.{Starts, Receives, Hears, allowed, time, saidBy, numbered, Step, called, told, Offered}
 
 -- ---- each export allows what the function behind it allows, and nothing else
 
@@ -75,7 +76,7 @@ step-is {b} (called {t = t} {p} {before} {after} {r} got) =
     let said : saidBy r after ≡ numbered (runs.saidBy (c .0) after) =
     ap (λ (y : Answer). saidBy y after) same ∙ (λ i. record { reply = take (c .0 .written) after; orders = sym (given-numbers (c .0 .order)) i; next = c .0 .board }) in
     (runs.saidBy (c .0) after, subst (λ (k : ℕ). runs.Step b (at t (take k p)) (runs.saidBy (c .0) after)) (ap (λ (y : Answer). y .taken) (sym same)) (runs.called (c .1)), said)
-step-is (told {r = r} got) = (quiet (r .board), runs.told (hears got), refl)
+step-is (told {next = after} (time got)) = (quiet after, runs.told (reports.time (hears got)), refl)
 
 -- and so is a run offered by them
 pub offered-is : {b : Board} {run : List (Item Event)} {x : Said ℕ Board} → Offered b run x → (y : Said Order Board) × runs.Offered b run y × (x ≡ numbered y)

@@ -34,6 +34,10 @@ pub data Receives (b : Board) (t : ℕ) (p before : List ℕ) (r : Answer) (afte
 pub data Hears (b : Board) (now : ℕ) (r : Report) : Type 0 where
   allowed : (κs : _) (a : _) (s : _) → report-clock.Post κs a r s → a .0 ≡ b → a .1 .0 ≡ now → Hears b now r
 
+-- a report of what an event says, by the export for that kind of report
+pub data Tells (b : Board) : Event → ℕ → Board → Type 0 where
+  time : {now : ℕ} {r : Report} → Hears b now r → Tells b (clock now) (r .number) (r .board)
+
 -- what a flat answer says: the bytes written in the buffer, the number of its order, and the next board
 abbrev pub saidBy : Answer → List ℕ → Said ℕ Board
 saidBy r after = record { reply = take (r .written) after; orders = cond (eqb (r .order) 0) [] (r .order ∷ []); next = r .board }
@@ -45,7 +49,7 @@ numbered x = record { reply = x .reply; orders = map orderNumber (x .orders); ne
 -- one step of a main loop of C or Rust
 pub data Step : Board → List (Item Event) → Said ℕ Board → Type 0 where
   called : {b : Board} {t : ℕ} {p before after : List ℕ} {r : Answer} → Receives b t p before r after → Step b (at t (take (r .taken) p)) (saidBy r after)
-  told : {b : Board} {now : ℕ} {r : Report} → Hears b now r → Step b (heard (r .number) (clock now)) (quiet (r .board))
+  told : {b next : Board} {e : Event} {number : ℕ} → Tells b e number next → Step b (heard number e) (quiet next)
 
 -- a run offered by such steps in any cutting
 abbrev pub Offered : Board → List (Item Event) → Said ℕ Board → Type 0

@@ -109,14 +109,19 @@ module _ (m : Memory) (u : List ℕ) where
 
 -- ---- DEMAND 1: "A command refused on the wire (errc, errd, errv) alters no setting"
 
-pub refused-keeps : (m : Memory) (u : List ℕ) → Refused (act m (whole u) .reply) → act m (whole u) .next .settings ≡ m .settings
-refused-keeps m u r = by (unit-ends m u)
+-- it is enough to know it of sets: nothing else stores anything
+pub refused-set-keeps : (m : Memory) (u : List ℕ) → ((k : ℕ) → kindAt u ≡ Set k → Refused (act m (whole u) .reply))
+    → act m (whole u) .next .settings ≡ m .settings
+refused-set-keeps m u r = by (unit-ends m u)
   where
     by : Ends m u → act m (whole u) .next .settings ≡ m .settings
     by (stores k a) =
         let e = ap (λ (x : Said Order Memory). getD (x .reply) 0 0) (accepted m u k a) in
-        absurd (set-first k (sym e ∙ refused-first (act m (whole u) .reply) r))
+        absurd (set-first k (sym e ∙ refused-first (act m (whole u) .reply) (r k (a .kind))))
     by (keeps e) = e
+
+pub refused-keeps : (m : Memory) (u : List ℕ) → Refused (act m (whole u) .reply) → act m (whole u) .next .settings ≡ m .settings
+refused-keeps m u r = refused-set-keeps m u (λ k e. r)
 
 -- ---- a block keeps its data until the next accepted set of it
 

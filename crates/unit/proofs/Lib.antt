@@ -3,6 +3,7 @@ pub mod Gets
 pub mod Replies
 pub mod Sound
 pub mod Kept
+pub mod Settings
 pub mod Flags
 pub mod Runs
 pub mod Cases
