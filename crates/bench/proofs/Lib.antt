@@ -1,3 +1,5 @@
 mod Answers
-mod Traces
+mod Calls
 mod Rest
+mod Traces
+mod Example

@@ -16,7 +16,7 @@ ghost use Rattle.unit.specs.Protocol.{protocol};
 ghost use Rattle.state.specs.State.{stateOf, boardOf};
 ghost use Rattle.state.specs.Sound.{soundBoard, refusalOf};
 ghost use Rattle.receiver.specs.Receive.{answer};
-ghost use Rattle.bench.specs.Trace.{replyRoom, runIn};
+ghost use Rattle.bench.specs.Trace.{replyRoom, runIn, callsFor, callsIn};
 
 // "Reply room is 250."
 const ROOM: usize = 250;
@@ -53,41 +53,54 @@ fn call_once(board: Board, stamp: u32, piece: &[u8]) -> Call
     call
 }
 
+// What bytes of a trace come to: the board that they leave, and the calls that they got.
+struct Ran {
+    board: Board,
+    calls: usize,
+}
+
 // Calls until all of a record's bytes are taken, at least once: a call on some bytes takes one at least, since the board is sound.
-fn offer(board: Board, stamp: u32, piece: &[u8]) -> Board
+fn offer(board: Board, stamp: u32, piece: &[u8]) -> Ran
     requires { ⌜ (soundBoard board ≡ true) × (board ≡ boardOf (stateOf board)) × (length (now piece) ≤ longestPiece) ⌝ }
-    ensures { λ r. ⌜ r ≡ boardOf (steps protocol (stateOf board) (stamped stamp (now (piece .entry))) .next) ⌝ }
+    ensures { λ r. ⌜ (r .board ≡ boardOf (steps protocol (stateOf board) (stamped stamp (now (piece .entry))) .next))
+        × (r .calls ≡ callsFor (stateOf board) stamp (now (piece .entry))) ⌝ }
 {
     let mut cur = board;
     let mut at = 0;
+    let mut calls = 0;
     loop {
         let call = call_once(cur, stamp, &piece[at..]);
+        calls += 1;
         cur = call.board;
         at += call.taken;
         if piece.len() <= at {
-            return cur;
+            return Ran { board: cur, calls };
         }
     }
 }
 
-// Record after record, until the bytes end or one is bad; the board at the end.
-fn run(bytes: &[u8]) -> Board
-    ensures { λ r. ⌜ r ≡ boardOf (wholeRun protocol freshMemory 0 (runIn (now (bytes .entry))) .next) ⌝ }
+// Record after record, until the bytes end or one is bad.
+fn run(bytes: &[u8]) -> Ran
+    ensures { λ r. ⌜ (r .board ≡ boardOf (wholeRun protocol freshMemory 0 (runIn (now (bytes .entry))) .next))
+        × (r .calls ≡ callsIn (now (bytes .entry))) ⌝ }
 {
     let mut board = state::fresh();
     let mut at = 0;
+    let mut calls = 0;
     while at < bytes.len() {
         let reading = trace::read_record(&bytes[at..]);
         let Reading::Record(head) = reading else {
             say_bad(at);
-            return board;
+            return Ran { board, calls };
         };
         let from = at + 7;
         let to = from + head.count;
-        board = offer(board, head.stamp, &bytes[from..to]);
+        let ran = offer(board, head.stamp, &bytes[from..to]);
+        board = ran.board;
+        calls += ran.calls;
         at = to;
     }
-    board
+    Ran { board, calls }
 }
 
 fn main() {
@@ -97,5 +110,6 @@ fn main() {
         say(b"too long\n");
         return;
     }
-    say_end(run(&input[..n]));
+    let ran = run(&input[..n]);
+    say_end(ran.board);
 }
