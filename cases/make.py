@@ -10,6 +10,8 @@ import model
 from model import ANY, BITS, BLOCKS, FRAME, ORDERS, PIECE, Board, crc, first_bad, frame, fresh, number_of, section
 from store import store
 
+ROOM = 250  # of a call, where its case does not say
+
 
 def empty(size):
     """A buffer before it is lent."""
@@ -61,7 +63,7 @@ class Player:
         self.case('h', room=count, stamp=stamp, data=data)
         self.board.held, self.board.count, self.board.last = (data + bytes(FRAME))[:FRAME], count, stamp
 
-    def call(self, piece, stamp=7, room=250, show=0):
+    def call(self, piece, stamp=7, room=ROOM, show=0):
         self.case('c', show, room, stamp, piece)
         number, taken, order, reply = self.board.call(piece, stamp, room)
         self.line(number, taken, len(reply), order, wide(reply, show), *self.rest())

@@ -17,7 +17,7 @@ NAMES = list(BLOCKS)
 ORDERS = ['stop', 'sstp', 'pwof', 'left', 'rigt', 'home', 'loft']
 ERRORS = ['errc', 'errd', 'errv']
 NAN = 0x7FC00000
-PIECE, FRAME = 250, 48  # the longest piece; the longest frame, which is the least room and what the board can hold
+PIECE = 250  # the longest piece
 
 
 # ---- blocks
@@ -42,6 +42,9 @@ def layout(name):  # a float is kept as its 32 bits
 
 def total(name):
     return 4 + struct.calcsize(layout(name)) + BLOCKS[name][1] + 2
+
+
+FRAME = max(map(total, NAMES))  # the longest frame, which is the least room and what the board can hold
 
 
 def passes(field, n):

@@ -1,7 +1,7 @@
 //! The proved receiver, libboard.a, behind safe types.
 //!
-//! A `Board` comes from `fresh` and changes by `receive` and `report_clock` only, so it is always sound. What a call took and wrote comes
-//! as slices: the rest that is to be offered again, and the reply.
+//! A `Board` comes from `fresh` and changes by `receive` and `report_clock` only (tests aside), so it is always sound. What a call took
+//! and wrote comes as slices: the rest that is to be offered again, and the reply.
 
 use crate::blocks::{Brk, Eds, Eng, Hom, Mov, Pid, Pwr};
 
