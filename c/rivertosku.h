@@ -20,14 +20,21 @@
 extern "C" {
 #endif
 
-/* The layout of the structs below. Its number stands in the name of a function of each archive too, and the calls marked "tied" call that
-   function: a header and an archive of different layouts do not link. */
+/* The layouts of the structs below: the board's and the optimiser's. A function's name in the archive ends in its layout's number, so that a
+   header and an archive of different layouts do not link, whichever function is used. */
 #define RIVERTOSKU_LAYOUT 1
+#define RIVERTOSKU_HOST_LAYOUT 1
 #define RIVERTOSKU_GLUE(name, number) name##number
 #define RIVERTOSKU_NUMBERED(name, number) RIVERTOSKU_GLUE(name, number)
-#define RIVERTOSKU_BOARD_LAYOUT RIVERTOSKU_NUMBERED(rivertosku_board_layout_, RIVERTOSKU_LAYOUT)
-#define RIVERTOSKU_SAME_LAYOUT RIVERTOSKU_NUMBERED(rivertosku_same_layout_, RIVERTOSKU_LAYOUT)
-#define RIVERTOSKU_HOST_LAYOUT RIVERTOSKU_NUMBERED(rivertosku_host_layout_, RIVERTOSKU_LAYOUT)
+#define rivertosku_fresh RIVERTOSKU_NUMBERED(rivertosku_fresh_, RIVERTOSKU_LAYOUT)
+#define rivertosku_judge RIVERTOSKU_NUMBERED(rivertosku_judge_, RIVERTOSKU_LAYOUT)
+#define rivertosku_same RIVERTOSKU_NUMBERED(rivertosku_same_, RIVERTOSKU_LAYOUT)
+#define rivertosku_receive RIVERTOSKU_NUMBERED(rivertosku_receive_, RIVERTOSKU_LAYOUT)
+#define rivertosku_report_clock RIVERTOSKU_NUMBERED(rivertosku_report_clock_, RIVERTOSKU_LAYOUT)
+#define rivertosku_write_get RIVERTOSKU_NUMBERED(rivertosku_write_get_, RIVERTOSKU_HOST_LAYOUT)
+#define rivertosku_write_order RIVERTOSKU_NUMBERED(rivertosku_write_order_, RIVERTOSKU_HOST_LAYOUT)
+#define rivertosku_write_set RIVERTOSKU_NUMBERED(rivertosku_write_set_, RIVERTOSKU_HOST_LAYOUT)
+#define rivertosku_read RIVERTOSKU_NUMBERED(rivertosku_read_, RIVERTOSKU_HOST_LAYOUT)
 
 /* The longest frame of a request, which is also the longest answer. */
 #define RIVERTOSKU_FRAME 48
@@ -204,15 +211,15 @@ struct rivertosku_report {
     struct rivertosku_board board;
 };
 
-/* A board that has taken nothing yet. Tied. */
+/* A board that has taken nothing yet. */
 struct rivertosku_board rivertosku_fresh(void);
 
 /* 0, or RIVERTOSKU_UNSOUND where no board can be in this state; does nothing else. For a board read back from flash: a program that restarts
-   with one judges it before the first call. Tied. */
+   with one judges it before the first call. */
 uint8_t rivertosku_judge(struct rivertosku_board board);
 
 /* Whether two boards are the same: stamp, notes, unfinished bytes, and each block as a get sends it, so minus zero is not zero. Spare bytes
-   and gaps play no part. RIVERTOSKU_SAME, RIVERTOSKU_ANOTHER, or RIVERTOSKU_UNSOUND where one of the two is. In libsame.a. Tied. */
+   and gaps play no part. RIVERTOSKU_SAME, RIVERTOSKU_ANOTHER, or RIVERTOSKU_UNSOUND where one of the two is. In libsame.a. */
 enum {
     RIVERTOSKU_SAME = 0,
     RIVERTOSKU_ANOTHER = 1
@@ -232,13 +239,6 @@ struct rivertosku_answer rivertosku_receive(struct rivertosku_board board, const
    or once a minute is plenty. Bytes that came earlier and are not yet taken may be offered behind a report, with their own stamp.
    Never report a time from before the last stamp handed over: it reads as a wait of 49 days, and drops a live command. */
 struct rivertosku_report rivertosku_report_clock(struct rivertosku_board board, uint32_t now);
-
-/* The tie. A macro's own name stands for the function. */
-uint32_t RIVERTOSKU_BOARD_LAYOUT(void);
-#define rivertosku_fresh() ((void)RIVERTOSKU_BOARD_LAYOUT(), rivertosku_fresh())
-#define rivertosku_judge(...) ((void)RIVERTOSKU_BOARD_LAYOUT(), rivertosku_judge(__VA_ARGS__))
-uint32_t RIVERTOSKU_SAME_LAYOUT(void);
-#define rivertosku_same(...) ((void)RIVERTOSKU_SAME_LAYOUT(), rivertosku_same(__VA_ARGS__))
 
 /* The optimiser's end, in liboptimiser.a. */
 
@@ -295,22 +295,15 @@ struct rivertosku_reading {
     struct rivertosku_blocks blocks; /* data stands in its block, all else is fresh; in range or not */
 };
 
-/* A request's frame at the front of out. Bytes past the frame are kept. Tied. */
+/* A request's frame at the front of out. Bytes past the frame are kept. */
 struct rivertosku_written rivertosku_write_get(uint8_t block, uint8_t *out, size_t out_len);
 struct rivertosku_written rivertosku_write_order(uint8_t order, uint8_t *out, size_t out_len);
 
-/* A set of one block, with its fields among the blocks; the other blocks there are not looked at. Tied. */
+/* A set of one block, with its fields among the blocks; the other blocks there are not looked at. */
 struct rivertosku_written rivertosku_write_set(uint8_t block, struct rivertosku_blocks blocks, uint8_t *out, size_t out_len);
 
-/* One answer from the front of what the board sent. A gain that is no number comes as some NaN. Tied. */
+/* One answer from the front of what the board sent. A gain that is no number comes as some NaN. */
 struct rivertosku_reading rivertosku_read(const uint8_t *bytes, size_t bytes_len);
-
-/* The tie. */
-uint32_t RIVERTOSKU_HOST_LAYOUT(void);
-#define rivertosku_write_get(...) ((void)RIVERTOSKU_HOST_LAYOUT(), rivertosku_write_get(__VA_ARGS__))
-#define rivertosku_write_order(...) ((void)RIVERTOSKU_HOST_LAYOUT(), rivertosku_write_order(__VA_ARGS__))
-#define rivertosku_write_set(...) ((void)RIVERTOSKU_HOST_LAYOUT(), rivertosku_write_set(__VA_ARGS__))
-#define rivertosku_read(...) ((void)RIVERTOSKU_HOST_LAYOUT(), rivertosku_read(__VA_ARGS__))
 
 /* The sizes, as Rust has them (rust/src/blocks.rs, board.rs and host.rs, tests sizes), and the field behind each gap. */
 #define RIVERTOSKU_AT(name, field, place) static_assert(offsetof(struct rivertosku_##name, field) == place, #name "." #field)

@@ -71,12 +71,15 @@ const _: () = assert!(usize::BITS == 64);
 
 extern "C" {
     // A library whose structs are laid out in another way has another number in these names, and does not link.
-    fn rivertosku_board_layout_1() -> u32;
+    #[link_name = "rivertosku_fresh_1"]
     fn rivertosku_fresh() -> Parts;
+    #[link_name = "rivertosku_judge_1"]
     fn rivertosku_judge(board: Parts) -> u8;
-    fn rivertosku_same_layout_1() -> u32;
+    #[link_name = "rivertosku_same_1"]
     fn rivertosku_same(a: Parts, b: Parts) -> u8;
+    #[link_name = "rivertosku_receive_1"]
     fn rivertosku_receive(board: Parts, piece: *const u8, piece_len: usize, stamp: u32, reply: *mut u8, reply_len: usize) -> Answer;
+    #[link_name = "rivertosku_report_clock_1"]
     fn rivertosku_report_clock(board: Parts, now: u32) -> Report;
 }
 
@@ -150,10 +153,7 @@ impl Board {
     /// A board that has taken nothing yet.
     pub fn fresh() -> Board {
         // SAFETY: no arguments; the struct is the library's, field for field.
-        Board(unsafe {
-            rivertosku_board_layout_1();
-            rivertosku_fresh()
-        })
+        Board(unsafe { rivertosku_fresh() })
     }
 
     /// `Accepted`, or `Unsound` where no board can be in this state; does nothing else.
@@ -166,11 +166,7 @@ impl Board {
     /// bytes play no part, which `==` compares too. `None` where one of the two is unsound.
     pub fn same(&self, other: &Board) -> Option<bool> {
         // SAFETY: no memory is handed over; any board values are allowed.
-        let number = unsafe {
-            rivertosku_same_layout_1();
-            rivertosku_same(self.0, other.0)
-        };
-        match number {
+        match unsafe { rivertosku_same(self.0, other.0) } {
             0 => Some(true),
             1 => Some(false),
             3 => None,

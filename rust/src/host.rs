@@ -154,11 +154,14 @@ struct FlatAnswer {
 }
 
 extern "C" {
-    // A library whose structs are laid out in another way has another number in this name, and does not link.
-    fn rivertosku_host_layout_1() -> u32;
+    // A library whose structs are laid out in another way has another number in these names, and does not link.
+    #[link_name = "rivertosku_write_get_1"]
     fn rivertosku_write_get(block: u8, out: *mut u8, out_len: usize) -> FlatWritten;
+    #[link_name = "rivertosku_write_set_1"]
     fn rivertosku_write_set(block: u8, blocks: Blocks, out: *mut u8, out_len: usize) -> FlatWritten;
+    #[link_name = "rivertosku_write_order_1"]
     fn rivertosku_write_order(order: u8, out: *mut u8, out_len: usize) -> FlatWritten;
+    #[link_name = "rivertosku_read_1"]
     fn rivertosku_read(bytes: *const u8, bytes_len: usize) -> FlatAnswer;
 }
 
@@ -167,7 +170,6 @@ pub fn write(request: &Request, out: &mut [u8]) -> Result<usize, WriteRefusal> {
     let (to, room) = (out.as_mut_ptr(), out.len());
     // SAFETY: the buffer is live and of this length, and the library does not keep it; any number and any blocks are allowed.
     let written = unsafe {
-        rivertosku_host_layout_1();
         match request {
             Request::Get(block) => rivertosku_write_get(*block as u8, to, room),
             Request::Set(fields) => rivertosku_write_set(fields.block() as u8, fields.blocks(), to, room),
@@ -185,10 +187,7 @@ pub fn write(request: &Request, out: &mut [u8]) -> Result<usize, WriteRefusal> {
 /// Reads one answer from the front of what the board sent and gives it with its length.
 pub fn read(bytes: &[u8]) -> Result<(Answer, usize), ReadRefusal> {
     // SAFETY: the bytes are live and of this length; the library does not keep them.
-    let read = unsafe {
-        rivertosku_host_layout_1();
-        rivertosku_read(bytes.as_ptr(), bytes.len())
-    };
+    let read = unsafe { rivertosku_read(bytes.as_ptr(), bytes.len()) };
     match read.number {
         0 => Ok((answer(&read), read.length)),
         5 => Err(ReadRefusal::NoName),

@@ -1,14 +1,10 @@
 -- Each public function's promise leaves one answer. Assumes nothing.
 use mathlib.Core.Path.{sym, _∙_}
 use Rattle.promise.specs.Promise.{Leaves}
-use Rattle.board.proofs.rivertosku_board_layout_1.Reads as rivertosku-board-layout
-use Rattle.board.proofs.rivertosku_fresh.Reads as rivertosku-fresh
-use Rattle.board.proofs.rivertosku_receive.Reads as rivertosku-receive
-use Rattle.board.proofs.rivertosku_report_clock.Reads as rivertosku-report-clock
-use Rattle.board.proofs.rivertosku_judge.Reads as rivertosku-judge
-
-pub rivertosku-board-layout-one : Leaves rivertosku-board-layout.Post (λ κs r s. r)
-rivertosku-board-layout-one κs a r r' s s' p q = p ∙ sym q
+use Rattle.board.proofs.rivertosku_fresh_1.Reads as rivertosku-fresh
+use Rattle.board.proofs.rivertosku_receive_1.Reads as rivertosku-receive
+use Rattle.board.proofs.rivertosku_report_clock_1.Reads as rivertosku-report-clock
+use Rattle.board.proofs.rivertosku_judge_1.Reads as rivertosku-judge
 
 pub rivertosku-fresh-one : Leaves rivertosku-fresh.Post (λ κs r s. r)
 rivertosku-fresh-one κs a r r' s s' p q = p ∙ sym q

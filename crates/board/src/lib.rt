@@ -1,4 +1,5 @@
-// The receiver as C and Rust link it: functions of the crates below under plain names, the order as 01's number.
+// The receiver as C and Rust link it: functions of the crates below, the order as 01's number.
+// The names end in the number of the structs' layout: a header of another layout asks for other names, and does not link.
 use clock::Report;
 use state::Board;
 ghost use mathlib.Core.Path.{_≡_};
@@ -22,18 +23,9 @@ pub struct Answer {
     pub order: u8,
 }
 
-// The number of the layout of the structs that are handed over, in the name too: a header of another layout asks for a name that is not there, and
-// does not link.
-#[no_mangle]
-pub extern "C" fn rivertosku_board_layout_1() -> u32
-    ensures { λ r. ⌜ r ≡ 1 ⌝ }
-{
-    1
-}
-
 // A board that has taken nothing yet.
 #[no_mangle]
-pub extern "C" fn rivertosku_fresh() -> Board
+pub extern "C" fn rivertosku_fresh_1() -> Board
     ensures { λ r. ⌜ r ≡ boardOf freshState ⌝ }
 {
     state::fresh()
@@ -41,7 +33,7 @@ pub extern "C" fn rivertosku_fresh() -> Board
 
 // One call: a piece of bytes that share a stamp, and room for the replies.
 #[no_mangle]
-pub extern "C" fn rivertosku_receive(
+pub extern "C" fn rivertosku_receive_1(
     board: Board,
     piece: &[u8],
     stamp: u32,
@@ -63,7 +55,7 @@ pub extern "C" fn rivertosku_receive(
 
 // One report of the time: what is unfinished is dropped where its last byte is too long ago.
 #[no_mangle]
-pub extern "C" fn rivertosku_report_clock(board: Board, now: u32) -> Report
+pub extern "C" fn rivertosku_report_clock_1(board: Board, now: u32) -> Report
     ensures { λ r. ⌜ r ≡ reported board now ⌝ }
 {
     clock::report_time(board, now)
@@ -71,7 +63,7 @@ pub extern "C" fn rivertosku_report_clock(board: Board, now: u32) -> Report
 
 // 0, or 3 where the board is not sound.
 #[no_mangle]
-pub extern "C" fn rivertosku_judge(board: Board) -> u8
+pub extern "C" fn rivertosku_judge_1(board: Board) -> u8
     ensures { λ r. ⌜ r ≡ refusalOf board ⌝ }
 {
     let verdict = state::judge(board);

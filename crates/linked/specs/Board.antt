@@ -15,9 +15,9 @@ use Rattle.state.specs.declared.Board.{Board}
 use Rattle.clock.specs.declared.Report.{Report}
 use Rattle.demands.specs.Runs.{heard, OfferedBy}
 use Rattle.board.specs.declared.Answer.{Answer}
-use Rattle.board.proofs.rivertosku_fresh.Reads as fresh
-use Rattle.board.proofs.rivertosku_receive.Reads as receive
-use Rattle.board.proofs.rivertosku_report_clock.Reads as report-clock
+use Rattle.board.proofs.rivertosku_fresh_1.Reads as fresh
+use Rattle.board.proofs.rivertosku_receive_1.Reads as receive
+use Rattle.board.proofs.rivertosku_report_clock_1.Reads as report-clock
 
 -- THE CONTRACT OF RIVERTOSKU_FRESH allows the board b
 pub data Starts (b : Board) : Type 0 where

@@ -21,10 +21,10 @@ use Rattle.answer.specs.declared.Answer.{Answer}
 use Rattle.optimiser.specs.Flat.{flatRead}
 use Rattle.optimiser.specs.declared.FlatWritten.{FlatWritten}
 use Rattle.optimiser.specs.declared.FlatAnswer.{FlatAnswer}
-use Rattle.optimiser.proofs.rivertosku_write_get.Reads as write-get
-use Rattle.optimiser.proofs.rivertosku_write_set.Reads as write-set
-use Rattle.optimiser.proofs.rivertosku_write_order.Reads as write-order
-use Rattle.optimiser.proofs.rivertosku_read.Reads as read
+use Rattle.optimiser.proofs.rivertosku_write_get_1.Reads as write-get
+use Rattle.optimiser.proofs.rivertosku_write_set_1.Reads as write-set
+use Rattle.optimiser.proofs.rivertosku_write_order_1.Reads as write-order
+use Rattle.optimiser.proofs.rivertosku_read_1.Reads as read
 use Rattle.link.specs.Book.{Book, bookOf, notedAll, answersTo}
 use Rattle.link.specs.Types.{TypedIn, TypedBoard}
 use Rattle.link.specs.Asking.{Ready}

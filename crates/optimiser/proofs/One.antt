@@ -1,14 +1,10 @@
 -- Each public function's promise leaves one answer. Assumes nothing.
 use mathlib.Core.Path.{sym, _∙_}
 use Rattle.promise.specs.Promise.{Leaves}
-use Rattle.optimiser.proofs.rivertosku_host_layout_1.Reads as rivertosku-host-layout
-use Rattle.optimiser.proofs.rivertosku_write_get.Reads as rivertosku-write-get
-use Rattle.optimiser.proofs.rivertosku_write_set.Reads as rivertosku-write-set
-use Rattle.optimiser.proofs.rivertosku_write_order.Reads as rivertosku-write-order
-use Rattle.optimiser.proofs.rivertosku_read.Reads as rivertosku-read
-
-pub rivertosku-host-layout-one : Leaves rivertosku-host-layout.Post (λ κs r s. r)
-rivertosku-host-layout-one κs a r r' s s' p q = p ∙ sym q
+use Rattle.optimiser.proofs.rivertosku_write_get_1.Reads as rivertosku-write-get
+use Rattle.optimiser.proofs.rivertosku_write_set_1.Reads as rivertosku-write-set
+use Rattle.optimiser.proofs.rivertosku_write_order_1.Reads as rivertosku-write-order
+use Rattle.optimiser.proofs.rivertosku_read_1.Reads as rivertosku-read
 
 -- of a writer: the answer, and every byte of the lent buffer
 

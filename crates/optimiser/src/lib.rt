@@ -1,4 +1,5 @@
 // The host's writer and reader as C and Rust link them: flat, a block or an order by its number of 01.
+// The names end in the number of the structs' layout: a header of another layout asks for other names, and does not link.
 use answer::Answer;
 use answer::Reading;
 use blocks::Blocks;
@@ -29,15 +30,6 @@ pub struct FlatAnswer {
     pub what: u8,
     pub size: usize,
     pub blocks: Blocks,
-}
-
-// The number of the layout of the structs that are handed over, in the name too: a header of another layout asks for a name that is not there, and
-// does not link.
-#[no_mangle]
-pub extern "C" fn rivertosku_host_layout_1() -> u32
-    ensures { λ r. ⌜ r ≡ 1 ⌝ }
-{
-    1
 }
 
 fn flat_written(written: Written) -> FlatWritten
@@ -71,7 +63,7 @@ fn write(request: Request, out: &mut [u8]) -> FlatWritten
 
 // The frame of a get of the block of this number.
 #[no_mangle]
-pub extern "C" fn rivertosku_write_get(block: u8, out: &mut [u8]) -> FlatWritten
+pub extern "C" fn rivertosku_write_get_1(block: u8, out: &mut [u8]) -> FlatWritten
     ensures { λ r. ⌜ FlatWrites (getAsked (blockAt block)) (now (out .entry)) r (now (out .exit)) ⌝ }
 {
     let found = host::block_at(block as usize);
@@ -87,7 +79,7 @@ pub extern "C" fn rivertosku_write_get(block: u8, out: &mut [u8]) -> FlatWritten
 
 // The frame of a set of the block of this number, with its fields among the blocks.
 #[no_mangle]
-pub extern "C" fn rivertosku_write_set(block: u8, blocks: Blocks, out: &mut [u8]) -> FlatWritten
+pub extern "C" fn rivertosku_write_set_1(block: u8, blocks: Blocks, out: &mut [u8]) -> FlatWritten
     ensures { λ r. ⌜ FlatWrites (setAsked blocks (blockAt block)) (now (out .entry)) r (now (out .exit)) ⌝ }
 {
     let found = host::block_at(block as usize);
@@ -103,7 +95,7 @@ pub extern "C" fn rivertosku_write_set(block: u8, blocks: Blocks, out: &mut [u8]
 
 // The frame of the order of this number.
 #[no_mangle]
-pub extern "C" fn rivertosku_write_order(order: u8, out: &mut [u8]) -> FlatWritten
+pub extern "C" fn rivertosku_write_order_1(order: u8, out: &mut [u8]) -> FlatWritten
     ensures { λ r. ⌜ FlatWrites (orderAsked (orderAt order)) (now (out .entry)) r (now (out .exit)) ⌝ }
 {
     let found = host::order_at(order as usize);
@@ -166,7 +158,7 @@ fn flat_answer(size: usize, answer: Answer) -> FlatAnswer
 
 // One answer from the front of what the board sent.
 #[no_mangle]
-pub extern "C" fn rivertosku_read(bytes: &[u8]) -> FlatAnswer
+pub extern "C" fn rivertosku_read_1(bytes: &[u8]) -> FlatAnswer
     ensures { λ r. ⌜ r ≡ flatRead (firstAnswer (now (bytes .entry))) ⌝ }
 {
     let reading = answer::read(bytes);

@@ -105,9 +105,10 @@ fn boards(a: Board, b: Board) -> bool
     settings(s, t)
 }
 
-// 3 where one of them is not sound, else 0 where two boards are the same, and 1 where they are not.
+// 3 where one of them is not sound, else 0 where two boards are the same, and 1 where they are not. The name ends in the layout's number, as the
+// board's functions have it.
 #[no_mangle]
-pub extern "C" fn rivertosku_same(a: Board, b: Board) -> u8
+pub extern "C" fn rivertosku_same_1(a: Board, b: Board) -> u8
     ensures { λ r. ⌜ r ≡ comparedAs a b ⌝ }
 {
     let one = state::judge(a);
@@ -121,13 +122,5 @@ pub extern "C" fn rivertosku_same(a: Board, b: Board) -> u8
     if boards(a, b) {
         return 0;
     }
-    1
-}
-
-// The number of the layout of the structs that are handed over, in the name too, as the board's functions have it.
-#[no_mangle]
-pub extern "C" fn rivertosku_same_layout_1() -> u32
-    ensures { λ r. ⌜ r ≡ 1 ⌝ }
-{
     1
 }

@@ -1,4 +1,4 @@
--- `same::rivertosku_same` meets its contract: each board's own refusal first, then the comparison. Assumes nothing.
+-- `same::rivertosku_same_1` meets its contract: each board's own refusal first, then the comparison. Assumes nothing.
 use Prim.Native.Nat.{ℕ}
 use mathlib.Core.Path.{_≡_, ap, sym, _∙_}
 use mathlib.Core.Bool.{Bool, true, false, cond}
@@ -6,8 +6,8 @@ use lib.Dec.{eqb}
 use borrow.Author.Needs.{needs}
 use borrow.Author.Tests.{eq-eqb, ne-eqb}
 use Rattle.state.specs.declared.Verdict.{Verdict}
-use Rattle.same.proofs.rivertosku_same.Statement.{statement}
-use Rattle.same.proofs.rivertosku_same.Tie as tie
+use Rattle.same.proofs.rivertosku_same_1.Statement.{statement}
+use Rattle.same.proofs.rivertosku_same_1.Tie as tie
 
 -- a board that is refused, and one that is not
 refused : {r n : ℕ} (x : ℕ) → r ≡ n → (r ≡ 0 → ⊥) → r ≡ cond (eqb n 0) x n
@@ -26,8 +26,8 @@ other e = rw e
 number : {v w : Verdict} → v ≡ w → v .number ≡ w .number
 number e = ap (λ (v : Verdict). v .number) e
 
-pub rivertosku-same-spec : {M : Type 1} → statement M
-rivertosku-same-spec =
+pub rivertosku-same-1-spec : {M : Type 1} → statement M
+rivertosku-same-1-spec =
     tie.close
     (tie.spec
     (λ c κs. search needs)

@@ -1,11 +1,11 @@
--- `optimiser::rivertosku_read` meets its contract: reading by reading. Assumes nothing.
+-- `optimiser::rivertosku_read_1` meets its contract: reading by reading. Assumes nothing.
 use borrow.Author.Needs.{needs}
 use Rattle.optimiser.proofs.Flats.{reads}
-use Rattle.optimiser.proofs.rivertosku_read.Statement.{statement}
-use Rattle.optimiser.proofs.rivertosku_read.Tie as tie
+use Rattle.optimiser.proofs.rivertosku_read_1.Statement.{statement}
+use Rattle.optimiser.proofs.rivertosku_read_1.Tie as tie
 
-pub rivertosku-read-spec : {M : Type 1} → statement M
-rivertosku-read-spec =
+pub rivertosku-read-1-spec : {M : Type 1} → statement M
+rivertosku-read-1-spec =
     tie.close
     (tie.spec
     (λ c κs. search needs)

@@ -1,10 +1,10 @@
--- `optimiser::rivertosku_write_order` meets its contract: a number of 01 or nobody's. Assumes nothing.
+-- `optimiser::rivertosku_write_order_1` meets its contract: a number of 01 or nobody's. Assumes nothing.
 use mathlib.Core.Path.{sym, ap, _∙_}
 use borrow.Author.Needs.{needs}
 use Rattle.optimiser.specs.Flat.{orderAsked}
 use Rattle.optimiser.proofs.Flats.{asks-nothing, asks-as}
-use Rattle.optimiser.proofs.rivertosku_write_order.Statement.{statement}
-use Rattle.optimiser.proofs.rivertosku_write_order.Tie as tie
+use Rattle.optimiser.proofs.rivertosku_write_order_1.Statement.{statement}
+use Rattle.optimiser.proofs.rivertosku_write_order_1.Tie as tie
 
 returns : tie.Need-returns
 returns c =
@@ -17,8 +17,8 @@ returns-2 c =
     let t = c .before in
     asks-as _ _ (ap orderAsked (sym (t .enum-told .given .1) ∙ t .before .before .order-at .ensures)) (asks-nothing _ _ (c .nobody-asked .ensures))
 
-pub rivertosku-write-order-spec : {M : Type 1} → statement M
-rivertosku-write-order-spec =
+pub rivertosku-write-order-1-spec : {M : Type 1} → statement M
+rivertosku-write-order-1-spec =
     tie.close
     (tie.spec
     (λ c κs. search needs)

@@ -1,10 +1,10 @@
--- `optimiser::rivertosku_write_get` meets its contract: a number of 01 or nobody's. Assumes nothing.
+-- `optimiser::rivertosku_write_get_1` meets its contract: a number of 01 or nobody's. Assumes nothing.
 use mathlib.Core.Path.{sym, ap, _∙_}
 use borrow.Author.Needs.{needs}
 use Rattle.optimiser.specs.Flat.{getAsked}
 use Rattle.optimiser.proofs.Flats.{asks-nothing, asks-as}
-use Rattle.optimiser.proofs.rivertosku_write_get.Statement.{statement}
-use Rattle.optimiser.proofs.rivertosku_write_get.Tie as tie
+use Rattle.optimiser.proofs.rivertosku_write_get_1.Statement.{statement}
+use Rattle.optimiser.proofs.rivertosku_write_get_1.Tie as tie
 
 returns : tie.Need-returns
 returns c =
@@ -17,8 +17,8 @@ returns-2 c =
     let t = c .before in
     asks-as _ _ (ap getAsked (sym (t .enum-told .given .1) ∙ t .before .before .block-at .ensures)) (asks-nothing _ _ (c .nobody-asked .ensures))
 
-pub rivertosku-write-get-spec : {M : Type 1} → statement M
-rivertosku-write-get-spec =
+pub rivertosku-write-get-1-spec : {M : Type 1} → statement M
+rivertosku-write-get-1-spec =
     tie.close
     (tie.spec
     (λ c κs. search needs)
