@@ -42,7 +42,7 @@ module _ {E : Type 0} (cuts : ℕ → E → Bool) (need : List ℕ → ℕ) wher
   feed-last [] t (byte s b) = settle-last (b ∷ []) s
   feed-last [] t (event e) = refl
   feed-last (a ∷ u) t (byte s b) =
-      either (λ (f : Fed E). f .line .last ≡ s) (late s t) _ _ (settle-last (b ∷ []) s) (settle-last (a ∷ u ++ b ∷ []) s)
+      either (λ (f : Fed E). f .line .last ≡ s) (late s t) _ _ (settle-last _ s) (settle-last _ s)
   feed-last (a ∷ u) t (event e) = either (λ (f : Fed E). f .line .last ≡ t) (cuts t e) _ _ refl refl
 
   last-cons : (t : ℕ) (x : Item E) (r : List (Item E)) → lastStamp (lastStamp t (x ∷ [])) r ≡ lastStamp t (x ∷ r)
