@@ -29,7 +29,8 @@ use Rattle.names.specs.declared.Order.{Order}
 use Rattle.unit.specs.Unit.{Event, act}
 use Rattle.unit.specs.Protocol.{protocol, freshState}
 use Rattle.unit.specs.declared.Memory.{Memory}
-use Rattle.unit.proofs.Kept.{Ends, stores, keeps, accepted, unit-ends}
+use Rattle.unit.specs.Kept.{Ends, stores, keeps}
+use Rattle.unit.proofs.Kept.{accepted, unit-ends}
 use Rattle.state.specs.State.{stateOf}
 use Rattle.state.specs.Sound.{refusalOf}
 use Rattle.state.specs.declared.Board.{Board}

@@ -22,7 +22,7 @@ use Rattle.names.specs.declared.Kind.the-variants.{Zero, Set, Get, Gives, Unkno
 use Rattle.names.proofs.Named.{set-unit}
 use Rattle.unit.specs.Unit.{Event, gets, stored, does, act}
 use Rattle.unit.specs.Protocol.{protocol}
-use Rattle.unit.specs.Kept.{Refused, errc, errd, errv, Accepts, Echoed, Takes, Without}
+use Rattle.unit.specs.Kept.{Refused, errc, errd, errv, Accepts, Ends, stores, keeps, Echoed, Takes, Without}
 use Rattle.unit.specs.declared.Memory.{Memory}
 use Rattle.unit.proofs.Sets.{puts-damaged, puts-refused, puts-stored}
 use Rattle.unit.proofs.Replies.{act-kind}
@@ -87,24 +87,20 @@ module _ (m : Memory) (u : List ℕ) where
   pub accepts-echoed : (k : ℕ) → Accepts m u k → Echoed m u k
   accepts-echoed k a = record { kind = a .kind; reply = ap (λ (x : Said Order Memory). x .reply) (accepted m u k a) }
 
-  -- WHAT A UNIT DOES TO THE SETTINGS: it is an accepted set, or it alters none
-  pub data Ends : Type 0 where
-    stores : (k : ℕ) → Accepts m u k → Ends
-    keeps : act m (whole u) .next .settings ≡ m .settings → Ends
-
-  unit-kind : (κ : Kind) → kindAt u ≡ κ → Ends
+  unit-kind : (κ : Kind) → kindAt u ≡ κ → Ends m u
   unfolding does gets Keeps
   unit-kind Zero e = keeps (same _ (act-kind m u Zero e) refl)
   unit-kind (Set k) e = by (set-ends k e)
     where
-      by : SetEnds k → Ends
+      by : SetEnds k → Ends m u
       by (accepts a) = stores k a
       by (refuses r h) = keeps h
   unit-kind (Get k) e = keeps (same _ (act-kind m u (Get k) e) refl)
   unit-kind (Gives o) e = keeps (same _ (act-kind m u (Gives o) e) refl)
   unit-kind Unknown e = keeps (same _ (act-kind m u Unknown e) refl)
 
-  pub unit-ends : Ends
+  -- WHAT A UNIT DOES TO THE SETTINGS: it is an accepted set, or it alters none
+  pub unit-ends : Ends m u
   unit-ends = unit-kind (kindAt u) refl
 
 -- ---- DEMAND 1: "A command refused on the wire (errc, errd, errv) alters no setting"

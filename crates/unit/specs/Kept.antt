@@ -27,7 +27,12 @@ pub record Accepts (m : Memory) (u : List ℕ) (k : ℕ) : Type 0 where
   pub crc : intact u ≡ true
   pub good : badAt (putAt (m .settings) k (dataIn u)) k ≡ 0
 
--- the same as the host sees it: a set of block k, and "the set name is the reply"
+-- what the unit u, met with the memory m, does to the settings: it is an accepted set, or it alters none
+pub data Ends (m : Memory) (u : List ℕ) : Type 0 where
+  stores : (k : ℕ) → Accepts m u k → Ends m u
+  keeps : act m (whole u) .next .settings ≡ m .settings → Ends m u
+
+-- the unit is accepted as the host sees it: a set of block k, and "the set name is the reply"
 pub record Echoed (m : Memory) (u : List ℕ) (k : ℕ) : Type 0 where
   pub kind : kindAt u ≡ Set k
   pub reply : act m (whole u) .reply ≡ leBytes 4 (nameIn setTable k)

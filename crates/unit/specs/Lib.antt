@@ -1,3 +1,4 @@
 pub mod Unit
 pub mod Protocol
 pub mod Kept
+pub mod Cases

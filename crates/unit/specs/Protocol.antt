@@ -29,6 +29,6 @@ soundState s = cond (begun need (s .line .unfinished)) (soundMemory (s .memory))
 abbrev pub protocol : Protocol Event Order Memory
 protocol = record { cuts = cutBy; need = need; act = act; longestPiece = longestPiece; leastRoom = longestFrame }
 
--- "nothing is unfinished, the last stamp is 0"
+-- 01, "Blocks": "nothing is unfinished, the last stamp is 0"
 abbrev pub freshState : State Memory
 freshState = record { memory = freshMemory; line = record { unfinished = []; last = 0 } }

@@ -1,4 +1,4 @@
--- What one whole unit does to the memory: the only place that knows the protocol.
+-- What one whole unit does to the memory. What a unit is and how long, names says; Protocol hands both to the rule, which knows no protocol.
 use mathlib.Core.Bool.{cond}
 use mathlib.Core.List.{List, [], _∷_}
 use mathlib.Core.Path.{_≡_}
