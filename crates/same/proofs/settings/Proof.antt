@@ -14,15 +14,22 @@ Inv-loop a b k₀ k = sameTo k a b ≡ sameSettings a b
 abbrev μ-loop : tie.MeasureT-loop
 μ-loop a b k₀ k = k
 
+-- the settings are named: left to be found, each is compared field by field
 returns : tie.Need-returns Inv-loop μ-loop
 returns c =
-    let l = c .before .before .before in
-    sym (to-differ _ _ _ (c .before .before .loop-test .taken) (sym (c .before .block .ensures) ∙ not-true _ (c .if1 .taken))) ∙ l .loop .inv
+    let t = c .before .before in
+    let l = t .before in
+    let a = l .before .args in
+    let differ = sym (c .before .block .ensures) ∙ not-true _ (c .if1 .taken) in
+    sym (to-differ (a .a) (a .b) (l .loop .k) (t .loop-test .taken) differ) ∙ l .loop .inv
 
 loop-again : tie.Need-loop-again Inv-loop μ-loop
 loop-again c =
-    let l = c .before .before .before in
-    sym (to-later _ _ _ (c .before .before .loop-test .taken) (sym (c .before .block .ensures) ∙ not-false _ (c .if1 .left))) ∙ l .loop .inv
+    let t = c .before .before in
+    let l = t .before in
+    let a = l .before .args in
+    let alike = sym (c .before .block .ensures) ∙ not-false _ (c .if1 .left) in
+    sym (to-later (a .a) (a .b) (l .loop .k) (t .loop-test .taken) alike) ∙ l .loop .inv
 
 returns-2 : tie.Need-returns-2 Inv-loop μ-loop
 returns-2 c = sym (to-none _ _ _ (omega (arith, c .loop-test .left))) ∙ c .before .loop .inv
