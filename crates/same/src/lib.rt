@@ -88,11 +88,7 @@ fn boards(a: Board, b: Board) -> bool
     if a.stamp != b.stamp {
         return false;
     }
-    let x = a.memory;
-    let y = b.memory;
-    let m = x.notes;
-    let n = y.notes;
-    if !notes(m, n) {
+    if !notes(a.memory.notes, b.memory.notes) {
         return false;
     }
     let front = a.held;
@@ -100,9 +96,7 @@ fn boards(a: Board, b: Board) -> bool
     if !unfinished(front, a.count, other, b.count) {
         return false;
     }
-    let s = x.settings;
-    let t = y.settings;
-    settings(s, t)
+    settings(a.memory.settings, b.memory.settings)
 }
 
 // 3 where one of them is not sound, else 0 where two boards are the same, and 1 where they are not. The name ends in the layout's number, as the

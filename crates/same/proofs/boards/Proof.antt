@@ -18,12 +18,11 @@ goes : {r t x y : Bool} → r ≡ t → r ≡ true → y ≡ x → y ≡ cond t 
 goes e h z = rw (sym e ∙ h) z
 
 returns-2 : tie.Need-returns-2
-returns-2 c =
-    picked _ _ _ _ _ (c .before .before .before .before .before .before .if1 .left) (ends _ (c .before .notes .ensures) (not-true _ (c .if2 .taken)))
+returns-2 c = picked _ _ _ _ _ (c .before .before .if1 .left) (ends _ (c .before .notes .ensures) (not-true _ (c .if2 .taken)))
 
 unfinished-requires : tie.Need-unfinished-requires
 unfinished-requires c κs =
-    let s = c .before .before .before .before .before .before .before .before .before .before .before in
+    let s = c .before .before .before .before .before .before .before in
     let f : length (s .args .a .held) ≡ longestFrame = search (needs, s .good .0 .1 .1 .1 .0 .1 .0) in
     let g : length (s .args .b .held) ≡ longestFrame = search (needs, s .good .1 .0 .1 .1 .1 .0 .1 .0) in
     (f, g)
@@ -31,15 +30,15 @@ unfinished-requires c κs =
 returns-3 : tie.Need-returns-3
 returns-3 c =
     let n = c .before .before .before .before in
-    picked _ _ _ _ _ (n .before .before .before .before .before .before .if1 .left)
+    picked _ _ _ _ _ (n .before .before .if1 .left)
     (goes (n .before .notes .ensures) (not-false _ (n .if2 .left))
     (ends {t = sameBytes _ _} _ (c .before .unfinished .ensures) (not-true _ (c .if3 .taken))))
 
 returns-4 : tie.Need-returns-4
 returns-4 c =
-    let u = c .before .before .before in
+    let u = c .before in
     let n = u .before .before .before .before in
-    picked _ _ _ _ _ (n .before .before .before .before .before .before .if1 .left)
+    picked _ _ _ _ _ (n .before .before .if1 .left)
     (goes (n .before .notes .ensures) (not-false _ (n .if2 .left))
     (goes {t = sameBytes _ _} (u .before .unfinished .ensures) (not-false _ (u .if3 .left))
     (c .settings .ensures)))
