@@ -1,6 +1,6 @@
 -- `wire::u32_at` meets its contract: the four bytes, there or past the end. Assumes nothing.
 use mathlib.Core.Path.{sym, _∙_}
-use native.Mathlib.Omega.{arith}
+use Prim.Native.Nat.{_+_, _*_}
 use native.Mathlib.Nat.{add-zero}
 use borrow.Author.Needs.{needs}
 use Rattle.wire.proofs.Numbers.{leAt-4}
@@ -12,8 +12,14 @@ returns c = let a = c .before .before .before .before .before .before .before .b
 
 returns-2 : tie.Need-returns-2
 returns-2 c =
-    let a = c .before .before .before .before .before .before .before .args in
-    omega (arith, leAt-4 (a .at) (a .s .now), c .four2 .ensures, c .before .byte-at4 .ensures, c .before .before .byte-at3 .ensures, c .before .before .before .byte-at2 .ensures, c .before .before .before .before .byte-at .ensures)
+    let four = c .before in
+    let three = four .before in
+    let two = three .before in
+    let one = two .before in
+    let a = one .before .before .before .args in
+    c .four2 .ensures
+    ∙ (λ i. one .byte-at .ensures i + 256 * (two .byte-at2 .ensures i + 256 * (three .byte-at3 .ensures i + 256 * four .byte-at4 .ensures i)))
+    ∙ sym (leAt-4 (a .at) (a .s .now))
 
 pub u32-at-spec : {M : Type 1} → statement M
 u32-at-spec =
