@@ -7,9 +7,8 @@ use native.Mathlib.Omega.{arith}
 use lib.ListN.{length}
 use borrow.Author.Tests.{lt-ltb}
 use Rattle.rule.specs.Run.{Item, byte, event, late}
-use Rattle.rule.specs.Rule.{Said, quiet, then, State, deal, wholeRun}
+use Rattle.rule.specs.Rule.{Said, quiet, then, State, deal, wholeRun, stateAt}
 use Rattle.rule.specs.Step.{feedOn, feed, step, steps}
-use Rattle.rule.specs.Loop.{stateAt}
 use Rattle.rule.specs.TrueTime.{Timed, Watched, WholeClose, TrueDrops}
 use Rattle.rule.proofs.Choice.{either}
 use Rattle.rule.proofs.Steps.{steps-append, steps-is-whole}

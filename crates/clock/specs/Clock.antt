@@ -4,8 +4,7 @@ use mathlib.Core.List.{[]}
 use Prim.Native.Nat.{ℕ}
 use lib.Dec.{ltb}
 use lib.ListN.{length}
-use Rattle.rule.specs.Rule.{State}
-use Rattle.rule.specs.Loop.{stateAt}
+use Rattle.rule.specs.Rule.{State, stateAt}
 use Rattle.unit.specs.Unit.{clock}
 use Rattle.unit.specs.Protocol.{cutBy}
 use Rattle.unit.specs.declared.Memory.{Memory}

@@ -16,10 +16,9 @@ use Rattle.sheet.specs.Rows.{rowAt, canonical}
 use Rattle.sheet.specs.Sheet.{setTable}
 use Rattle.rule.specs.Run.{Item, byte, event, bytes, at}
 use Rattle.rule.specs.Framing.{Token, whole}
-use Rattle.rule.specs.Rule.{Said, quiet, then, State, deal, wholeRun}
+use Rattle.rule.specs.Rule.{Said, quiet, then, State, deal, wholeRun, stateAt}
 use Rattle.rule.specs.Step.{steps}
 use Rattle.rule.specs.Calls.{Called, call}
-use Rattle.rule.specs.Loop.{stateAt}
 use Rattle.rule.specs.Facts.{spent}
 use Rattle.rule.proofs.Choice.{either}
 use Rattle.rule.proofs.Said.{deal-append}

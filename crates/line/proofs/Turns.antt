@@ -12,10 +12,9 @@ use Rattle.wire.specs.Numbers.{leAt}
 use Rattle.wire.proofs.Numbers.{leAt-drop}
 use Rattle.sheet.specs.Lengths.{longestFrame}
 use Rattle.rule.specs.Framing.{whole}
-use Rattle.rule.specs.Rule.{Said}
+use Rattle.rule.specs.Rule.{Said, stateAt}
 use Rattle.rule.specs.Calls.{Called, accept}
-use Rattle.rule.specs.Loop.{stateAt, later, over}
-use Rattle.rule.proofs.Loop.{later-start, later-end}
+use Rattle.rule.proofs.Loop.{later, over, later-start, later-end}
 use Rattle.rule.proofs.Units.{unit-open, unit-full, unit-turn, unit-stop}
 use Rattle.names.specs.Names.{kindFrom, kindAt, span, replied, need, orderNumber, given}
 use Rattle.names.specs.declared.Order.{Order}

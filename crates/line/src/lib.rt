@@ -8,7 +8,7 @@ ghost use mathlib.Core.Path.{_≡_};
 ghost use Prim.Native.Nat.{_-_, _≤_};
 ghost use lib.ListN.{length, take, drop};
 ghost use Rattle.rule.specs.Calls.{accept};
-ghost use Rattle.rule.specs.Loop.{stateAt};
+ghost use Rattle.rule.specs.Rule.{stateAt};
 ghost use Rattle.sheet.specs.Lengths.{longestFrame};
 ghost use Rattle.unit.specs.Protocol.{protocol};
 ghost use Rattle.state.specs.State.{boardOf};

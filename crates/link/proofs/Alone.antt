@@ -7,9 +7,10 @@ use lib.ListN.{length, take}
 use borrow.Author.Tests.{ne-eqb}
 use Rattle.rule.specs.Run.{late}
 use Rattle.rule.specs.Framing.{whole}
-use Rattle.rule.specs.Rule.{State}
+use Rattle.rule.specs.Rule.{State, stateAt}
 use Rattle.rule.specs.Calls.{Called, accept, call}
-use Rattle.rule.specs.Loop.{over, stateAt, ready}
+use Rattle.rule.specs.Ready.{ready}
+use Rattle.rule.proofs.Loop.{over}
 use Rattle.rule.proofs.Choice.{either}
 use Rattle.rule.proofs.Numbered.{call-accepted}
 use Rattle.rule.proofs.Units.{unit-alone}

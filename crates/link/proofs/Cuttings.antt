@@ -9,10 +9,9 @@ use Rattle.sheet.specs.Lengths.{longestFrame}
 use Rattle.settings.specs.Settings.{freshSettings}
 use Rattle.rule.specs.Run.{Item, lastStamp}
 use Rattle.rule.specs.Framing.{whole}
-use Rattle.rule.specs.Rule.{Said, then, State, with-line}
+use Rattle.rule.specs.Rule.{Said, then, State, with-line, stateAt}
 use Rattle.rule.specs.Step.{steps}
 use Rattle.rule.specs.Facts.{InTime, spread}
-use Rattle.rule.specs.Loop.{stateAt}
 use Rattle.rule.proofs.Waits.{late-self}
 use Rattle.rule.proofs.Steps.{steps-append}
 use Rattle.rule.proofs.Spread.{steps-in-time}

@@ -10,7 +10,7 @@ use lib.ListN.{length}
 use borrow.Author.Tests.{ne-eqb, eqb-true}
 use Rattle.rule.specs.Rule.{Said, State}
 use Rattle.rule.specs.Calls.{Called, accept, call}
-use Rattle.rule.specs.Loop.{ready}
+use Rattle.rule.specs.Ready.{ready}
 use Rattle.rule.proofs.Choice.{eitherBy}
 use Rattle.rule.proofs.Calls.{call-none}
 use Rattle.rule.proofs.Loop.{accept-ready}

@@ -11,8 +11,9 @@ use lib.Seq.{length-take-le}
 use borrow.Author.Tests.{eq-eqb, ne-eqb, eqb-false, ltb-true}
 use Rattle.rule.specs.Run.{late}
 use Rattle.rule.specs.Calls.{Called, accept}
-use Rattle.rule.specs.Loop.{over, stateAt, lose, ready, later}
-use Rattle.rule.proofs.Loop.{accept-number, later-start}
+use Rattle.rule.specs.Rule.{stateAt}
+use Rattle.rule.specs.Ready.{lose, ready}
+use Rattle.rule.proofs.Loop.{over, later, accept-number, later-start}
 use Rattle.rule.proofs.Units.{on-line, unit-open}
 use Rattle.sheet.specs.Lengths.{longestFrame}
 use Rattle.names.specs.Names.{need}

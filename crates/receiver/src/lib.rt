@@ -10,7 +10,7 @@ ghost use lib.Dec.{eqb, ltb};
 ghost use lib.ListN.{length, getD, take};
 ghost use Rattle.rule.specs.Run.{late};
 ghost use Rattle.rule.specs.Calls.{none, accept, call};
-ghost use Rattle.rule.specs.Loop.{ready};
+ghost use Rattle.rule.specs.Ready.{ready};
 ghost use Rattle.sheet.specs.Lengths.{longestFrame, longestPiece};
 ghost use Rattle.names.specs.Names.{need};
 ghost use Rattle.unit.specs.Protocol.{protocol};

@@ -8,11 +8,16 @@ use lib.Dec.{leb}
 use lib.ListN.{length, take, drop, length-drop}
 use Rattle.rule.specs.Run.{Item, byte, event, bytes, events, among, past, onward}
 use Rattle.rule.specs.Framing.{Needs, whole, lost, seen, Front, ends, drops, stays, Cut, put, puts, broken, after, front, units, unitsOf}
-use Rattle.rule.specs.Facts.{AtMost}
 use Rattle.rule.proofs.Framing.{units-enough}
 use Rattle.rule.proofs.Choice.{either}
 
 module _ {E : Type 0} where
+  -- the run behind the first unit has at most n items
+  abbrev pub AtMost : ℕ → Front E → Type 0
+  AtMost n (ends es u r) = length r ≤ n
+  AtMost n (drops es u r) = length r ≤ n
+  AtMost n (stays es u) = Unit {0}
+
   past-most : (k : ℕ) (r : List (Item E)) → length (past k r) ≤ length r
   past-most zero r = omega arith
   past-most (suc k) [] = omega arith

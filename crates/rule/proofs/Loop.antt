@@ -10,15 +10,25 @@ use lib.ListN.{length, take}
 use borrow.Author.Tests.{le-leb, lt-leb}
 use Rattle.rule.specs.Run.{byte, late}
 use Rattle.rule.specs.Framing.{whole}
-use Rattle.rule.specs.Rule.{quiet, State, with-line, Protocol, deal}
+use Rattle.rule.specs.Rule.{quiet, State, with-line, Protocol, deal, stateAt}
 use Rattle.rule.specs.Step.{settle, feed, feedOn, step}
 use Rattle.rule.specs.Calls.{Called, accept}
-use Rattle.rule.specs.Loop.{stateAt, ready, later, over}
+use Rattle.rule.specs.Ready.{ready}
 use Rattle.rule.specs.Facts.{says, Silent}
 use Rattle.rule.proofs.Said.{then-quiet}
 use Rattle.rule.proofs.Framing.{settle-whole, settle-part}
 use Rattle.rule.proofs.Accept.{accept-by}
 use Rattle.rule.proofs.Waits.{late-self}
+
+-- k bytes are taken, `out` is said, and the call is over
+abbrev pub over : {O M : Type 0} → ℕ → List ℕ → List O → State M → Called O M
+over k out os s = record { number = 0; taken = k; said = record { reply = out; orders = os; next = s } }
+
+-- THE LOOP'S INVARIANT: k bytes are taken and `out` is said, with no order, and the call from s on the rest is to come; this is the whole call
+abbrev pub later : {E O M : Type 0} (p : Protocol E O M) → ℕ → List ℕ → State M → ℕ → ℕ → List ℕ → Called O M
+later p k out s t room piece =
+    let c = accept p s t room piece in
+    over (k + c .taken) (out ++ c .said .reply) (c .said .orders) (c .said .next)
 
 next-count : (k n : ℕ) → k + suc n ≡ k + 1 + n
 next-count k n = omega arith

@@ -9,9 +9,8 @@ use lib.Seq.{take-length}
 use borrow.Author.Tests.{le-leb}
 use Rattle.rule.specs.Run.{byte, bytes, among, past, onward, lastStamp}
 use Rattle.rule.specs.Framing.{Needs, whole, Cut, front, units, unitsOf}
-use Rattle.rule.specs.Rule.{with-line, Protocol, deal, wholeRun}
+use Rattle.rule.specs.Rule.{with-line, Protocol, deal, wholeRun, stateAt}
 use Rattle.rule.specs.Step.{steps}
-use Rattle.rule.specs.Loop.{stateAt}
 use Rattle.rule.specs.Facts.{InTime, spread}
 use Rattle.rule.proofs.Said.{then-quiet}
 use Rattle.rule.proofs.Steps.{steps-is-whole}

@@ -12,11 +12,10 @@ use lib.Seq.{length-take-le, take-length, drop-length, take-suc, drop-cons}
 use borrow.Author.Tests.{leb-true, leb-false}
 use Rattle.rule.specs.Run.{byte}
 use Rattle.rule.specs.Framing.{Needs, whole}
-use Rattle.rule.specs.Rule.{Said, with-line, Protocol}
+use Rattle.rule.specs.Rule.{Said, with-line, Protocol, stateAt}
 use Rattle.rule.specs.Step.{step}
 use Rattle.rule.specs.Calls.{Called, accept}
-use Rattle.rule.specs.Loop.{stateAt, later, over}
-use Rattle.rule.proofs.Loop.{step-ends, later-start, later-end, later-full, later-turn, later-stop, later-joins}
+use Rattle.rule.proofs.Loop.{later, over, step-ends, later-start, later-end, later-full, later-turn, later-stop, later-joins}
 
 module _ {need : List ℕ → ℕ} (law : Needs need) where
   -- a beginning that is shorter than the first unit is unfinished

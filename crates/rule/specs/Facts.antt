@@ -43,12 +43,6 @@ module _ {E : Type 0} where
   spread (t ∷ ts) [] = []
   spread (t ∷ ts) (b ∷ u) = byte t b ∷ spread ts u
 
-  -- the run behind the first unit has at most n items
-  abbrev pub AtMost : ℕ → Front E → Type 0
-  AtMost n (ends es u r) = length r ≤ n
-  AtMost n (drops es u r) = length r ≤ n
-  AtMost n (stays es u) = Unit {0}
-
 module _ {E O M : Type 0} (p : Protocol E O M) where
   -- what the byte x, taken at t, says from the state s
   abbrev pub says : ℕ → State M → ℕ → Said O (State M)

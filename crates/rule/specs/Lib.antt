@@ -3,6 +3,6 @@ pub mod Framing
 pub mod Rule
 pub mod Step
 pub mod Calls
-pub mod Loop
+pub mod Ready
 pub mod Facts
 pub mod TrueTime

@@ -30,6 +30,10 @@ pub record State (M : Type 0) : Type 0 where
   pub memory : M
   pub line : Line
 
+-- the bytes u are unfinished, the last stamp is t
+abbrev pub stateAt : {M : Type 0} → M → List ℕ → ℕ → State M
+stateAt m u t = record { memory = m; line = record { unfinished = u; last = t } }
+
 module _ {O M : Type 0} where
   -- a memory's say, at a line
   abbrev pub with-line : Line → Said O M → Said O (State M)

@@ -6,7 +6,7 @@ use unit::Notes;
 ghost use mathlib.Core.List.{[]};
 ghost use mathlib.Core.Path.{_≡_};
 ghost use lib.ListN.{length, take};
-ghost use Rattle.rule.specs.Loop.{stateAt};
+ghost use Rattle.rule.specs.Rule.{stateAt};
 ghost use Rattle.sheet.specs.Lengths.{longestFrame};
 ghost use Rattle.unit.specs.Protocol.{freshState};
 ghost use Rattle.state.specs.State.{boardOf};

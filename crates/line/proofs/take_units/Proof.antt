@@ -6,7 +6,7 @@ use native.Mathlib.Omega.{arith}
 use lib.ListN.{length}
 use borrow.Author.Needs.{needs}
 use Rattle.rule.specs.Calls.{accept}
-use Rattle.rule.specs.Loop.{stateAt}
+use Rattle.rule.specs.Rule.{stateAt}
 use Rattle.unit.specs.Protocol.{protocol}
 use Rattle.line.proofs.Turns as turns
 use Rattle.line.proofs.take_units.Statement.{statement}

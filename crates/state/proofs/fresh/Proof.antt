@@ -3,7 +3,7 @@ use mathlib.Core.List.{[]}
 use mathlib.Core.Path.{ap, _∙_}
 use borrow.Author.Needs.{needs}
 use Rattle.settings.specs.declared.Settings.{Settings}
-use Rattle.rule.specs.Loop.{stateAt}
+use Rattle.rule.specs.Rule.{stateAt}
 use Rattle.state.specs.State.{boardOf}
 use Rattle.state.proofs.fresh.Statement.{statement}
 use Rattle.state.proofs.fresh.Tie as tie
