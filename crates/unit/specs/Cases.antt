@@ -1,5 +1,5 @@
--- The starred cases of sheet 01, "Frames on the bench", all thirteen in one table: in quotation marks, 01. Behind them, in a table of its own, 02's P3:
--- seven weeks of standstill.
+-- The starred cases of sheet 01, "Frames on the bench": all thirteen in one table. In quotation marks: 01. Behind them 02's P3, seven weeks of
+-- standstill, in a table of its own.
 use mathlib.Core.Path.{_≡_}
 use mathlib.Core.List.{List, [], _∷_, _++_, map}
 use Prim.Native.Nat.{ℕ}
