@@ -106,7 +106,7 @@ class Player:
         number, length, name, read = model.read(data)
         self.line(number, length, *[] if name is None else [name], *[] if read is None else [wide(read)])
 
-    # ---- the leaves
+    # ---- arithmetic
 
     def checksum(self, data):
         self.case('x', data=data)
@@ -407,7 +407,7 @@ def buffers(p):
         p.keeps()
 
 
-def leaves(p):
+def arithmetic(p):
     """The checksum's vectors of 01; signed numbers at their ends."""
     for label, data in [('nothing', b''), ('00', b'\0'), ('FF', b'\xff'), ('FF FF', b'\xff\xff'), ('123456789', b'123456789')]:
         p.say(f'crc {label}')
@@ -419,7 +419,7 @@ def leaves(p):
 
 def main():
     p = Player()
-    for cases in (leaves, sheet, unsound, stops, blocks, fields, requests, refusals, reports, buffers):
+    for cases in (arithmetic, sheet, unsound, stops, blocks, fields, requests, refusals, reports, buffers):
         cases(p)
     folder = os.path.join(os.path.dirname(os.path.abspath(__file__)), '..', 'crates', 'player')
     store(folder, {'stdin': p.stdin, 'stdout': p.stdout.encode()})

@@ -45,7 +45,7 @@ fn show_notes(notes: Notes) {
 
 fn show_line(held: &[u8], count: usize, stamp: u32) {
     print::number(count);
-    print::front(held, count);
+    print::beginning(held, count);
     print::number(stamp as usize);
     print::say(b"\n");
 }
@@ -58,12 +58,12 @@ fn show_rest(board: Board) -> Board {
     board
 }
 
-// The reply, or the buffer's front where that is longer.
-fn show_reply(buffer: &[u8], written: usize, front: usize) {
-    if written < front {
-        print::front(buffer, front);
+// The reply, or the buffer to an extent that is longer.
+fn show_reply(buffer: &[u8], written: usize, extent: usize) {
+    if written < extent {
+        print::beginning(buffer, extent);
     } else {
-        print::front(buffer, written);
+        print::beginning(buffer, written);
     }
 }
 
@@ -76,7 +76,7 @@ fn show_call(number: u8, taken: usize, written: usize, order: Order) {
 
 fn call_in(
     board: Board,
-    front: usize,
+    extent: usize,
     room: usize,
     stamp: u32,
     piece: &[u8],
@@ -86,13 +86,13 @@ fn call_in(
     let call = receiver::receive(board, piece, stamp, &mut buffer[..size]);
     let order = call.order;
     show_call(call.number, call.taken, call.written, order);
-    show_reply(buffer, call.written, front);
+    show_reply(buffer, call.written, extent);
     show_rest(call.board)
 }
 
-pub fn call(board: Board, front: usize, room: usize, stamp: u32, piece: &[u8]) -> Board {
+pub fn call(board: Board, extent: usize, room: usize, stamp: u32, piece: &[u8]) -> Board {
     let mut buffer = print::buffer();
-    call_in(board, front, room, stamp, piece, &mut buffer)
+    call_in(board, extent, room, stamp, piece, &mut buffer)
 }
 
 pub fn report(board: Board, now: u32) -> Board {

@@ -31,7 +31,7 @@ fn write_in(asked: Request, room: usize, buffer: &mut [u8]) {
     let size = print::within(buffer, room);
     let written = request::write(asked, &mut buffer[..size]);
     show_written(written);
-    print::front(buffer, size);
+    print::beginning(buffer, size);
     print::say(b"\n");
 }
 

@@ -22,9 +22,9 @@
 // Behind what a call or a report prints: flags, last refused block and field, count of unfinished bytes, these bytes, last stamp. Buffers have as
 // many bytes as the room says, 256 at most, all ee before. Every operation that prints ends the line, but for `say`.
 // A get, a set or an order of a number that nobody has prints `no such number`.
+mod arithmetic;
 mod boards;
 mod hosts;
-mod leaves;
 mod print;
 
 use state::Board;
@@ -69,10 +69,10 @@ fn show(head: Head, bytes: &[u8]) {
             hosts::read(bytes);
         }
         b'x' => {
-            leaves::checksum(bytes);
+            arithmetic::checksum(bytes);
         }
         b'i' => {
-            leaves::integer(head.stamp);
+            arithmetic::integer(head.stamp);
         }
         _ => {
             print::say(b"no operation\n");
@@ -129,9 +129,9 @@ fn step_in(head: Head, board: Board, buffer: &mut [u8]) -> Board {
     step(head, board, &buffer[..count])
 }
 
-fn step_behind(front: &[u8], board: Board) -> Board {
+fn step_behind(start: &[u8], board: Board) -> Board {
     let mut bytes = print::buffer();
-    step_in(head_of(front), board, &mut bytes)
+    step_in(head_of(start), board, &mut bytes)
 }
 
 // Case after case, until there is none. The number bounds them, since nobody knows how long the input is.
@@ -139,11 +139,11 @@ fn main() {
     let mut board = state::fresh();
     let mut left = 1000000usize;
     while 0 < left {
-        let mut front = [0u8; 10];
-        if io::read_full(0, &mut front) < 10 {
+        let mut start = [0u8; 10];
+        if io::read_full(0, &mut start) < 10 {
             return;
         }
-        board = step_behind(&front, board);
+        board = step_behind(&start, board);
         left -= 1;
     }
 }

@@ -1,6 +1,7 @@
 // What the program prints, to standard output, and the buffers it is printed of.
 ghost use mathlib.Core.Path.{_≡_};
-ghost use lib.ListN.{length};
+ghost use Prim.Native.Nat.{min};
+ghost use lib.ListN.{length, replicate};
 ghost use Rattle.io.specs.Counts.{Counts};
 
 pub fn say(text: &[u8]) {
@@ -21,14 +22,14 @@ pub fn hexadecimal(part: &[u8]) {
 }
 
 // The first n of the bytes, as many as there are.
-pub fn front(part: &[u8], n: usize) {
+pub fn beginning(part: &[u8], n: usize) {
     let end = within(part, n);
     hexadecimal(&part[..end]);
 }
 
-// How many of n bytes a part has.
+// How many of n bytes a part has. The second half follows from the first: the proofs that Rattle makes of the callers look for it.
 pub fn within(part: &[u8], n: usize) -> usize
-    ensures { λ r. ⌜ Counts r (now (part .entry)) ⌝ }
+    ensures { λ r. ⌜ (r ≡ min n (length (now (part .entry)))) × Counts r (now (part .entry)) ⌝ }
 {
     if n < part.len() {
         return n;
@@ -36,9 +37,9 @@ pub fn within(part: &[u8], n: usize) -> usize
     part.len()
 }
 
-// What is lent to be written into.
+// What is lent to be written into. The second half is there for the callers too.
 pub fn buffer() -> [u8; 256]
-    ensures { λ r. ⌜ 256 ≡ length r ⌝ }
+    ensures { λ r. ⌜ (r ≡ replicate 256 0xEE) × (256 ≡ length r) ⌝ }
 {
     [0xeeu8; 256]
 }

@@ -1,4 +1,4 @@
-// What other crates are built on, by itself.
+// The checksum and the signed numbers, which other crates are built on, by themselves.
 use crate::print;
 
 pub fn checksum(part: &[u8]) {
