@@ -1,10 +1,9 @@
 -- `line::take_units` meets its contract: each turn of the loop is a law of Turns. Assumes nothing.
 use mathlib.Core.List.{[]}
 use mathlib.Core.Path.{sym, _∙_}
-use Prim.Native.Nat.{_-_}
+use Prim.Native.Nat.{_+_, _-_, _≤_}
 use native.Mathlib.Omega.{arith}
 use lib.ListN.{length}
-use borrow.Author.Needs.{needs}
 use Rattle.rule.specs.Calls.{accept}
 use Rattle.rule.specs.Rule.{stateAt}
 use Rattle.unit.specs.Protocol.{protocol}
@@ -23,8 +22,11 @@ abbrev μ-loop : tie.MeasureT-loop
 abbrev turn : tie.After-span-of Inv-loop μ-loop → tie.In-loop Inv-loop μ-loop
 turn k = k .before .before .before .before
 
+abbrev start : tie.After-span-of Inv-loop μ-loop → tie.Start Inv-loop μ-loop
+start k = turn k .before .before .before .before
+
 looked : (k : tie.After-span-of Inv-loop μ-loop)
-    → turns.Looked (turn k .before .before .before .before .args .line .now) (turn k .before .loop .i) (k .span-of .result) (k .before .kind-of .result)
+    → turns.Looked (start k .args .line .now) (turn k .before .loop .i) (k .span-of .result) (k .before .kind-of .result)
 looked k = record { looked = turns.looked-at _ _ _ _ (k .before .before .u32-at .ensures) (k .before .kind-of .ensures); spans = k .span-of .ensures }
 
 abbrev unit : tie.After-replied-of Inv-loop μ-loop → tie.After-span-of Inv-loop μ-loop
@@ -35,6 +37,10 @@ due k = k .before
 
 abbrev room : tie.After-answer Inv-loop μ-loop → tie.Else2 Inv-loop μ-loop
 room k = k .before .before .before
+
+-- the unit in front ends within the line. Named, as what else `omega` needs below: it would look for facts in all that stands before, which is dear
+within : (d : tie.After-replied-of Inv-loop μ-loop) → turn (unit d) .before .loop .i + unit d .span-of .result ≤ length (start (unit d) .args .line .now)
+within d = omega (arith, d .before .if1 .left, turn (unit d) .before .loop .inv .at)
 
 -- ---- the turns
 
@@ -82,39 +88,40 @@ take-units-spec =
     μ-loop
     (λ c. turns.starts _ _ _ _)
     (λ c. c .before .loop-test .taken)
-    (λ c κs. search needs)
-    (λ c κs. search needs)
-    (λ c κs. search needs)
+    (λ c κs. tt)
+    (λ c κs. tt)
+    (λ c κs. tt)
     (λ c. turn c .before .loop .inv .at)
     (λ c κs. (turn (c .before) .before .loop .inv .at, omega arith, omega (arith, c .if1 .taken, turns.most (looked (c .before)))))
     (λ c. turn (c .before .before) .before .loop .inv .long)
     unfinished
-    (λ c κs. search needs)
+    (λ c κs. tt)
     (λ c. omega (arith, turn (unit c) .before .loop .inv .room, turn (unit c) .before .loop .inv .long))
-    (λ c. omega arith)
+    (λ c. omega (arith, within (c .before), start (unit (c .before)) .good .1 .0 .0))
     (λ c. omega (arith, turns.some (looked (unit (c .before)))))
     (λ c κs.
     let it = looked (unit (c .before)) in
-    (omega (arith, turns.some it), omega (arith, c .before .before .if1 .left), omega (arith, turns.most it)))
+    (omega (arith, turns.some it), omega (arith, within (c .before)), omega (arith, turns.most it)))
     (λ c. turn (unit (c .before .before)) .before .loop .inv .long)
     full
+    (λ c. omega (arith, within (due c), start (unit (due c)) .good .1 .0 .0))
     (λ c. omega arith)
-    (λ c. omega arith)
-    (λ c. omega arith)
-    (λ c. omega (arith, c .before .before .if1 .left, turn (unit (due c)) .before .loop .inv .at))
+    (λ c. omega (arith, within (due c)))
+    (λ c. omega (arith, within (due c)))
     (λ c. let inv = turn (unit (due (c .before))) .before .loop .inv in omega (arith, inv .room, inv .long))
     (λ c. let inv = turn (unit (due (c .before))) .before .loop .inv in omega (arith, inv .room, inv .long))
     (λ c. omega arith)
-    (λ c κs. search needs)
+    (λ c κs. tt)
     (λ c.
     let r = room (c .before .before .before) in
-    let loop = turn (unit (due r)) .before in
-    omega (arith, r .if2 .left, loop .loop .inv .room, loop .loop .inv .long, loop .before .before .before .good .1 .1 .1 .0 .0))
-    (λ c κs. search needs)
-    (λ c κs. (omega arith, omega arith, omega arith))
+    let k = unit (due r) in
+    let inv = turn k .before .loop .inv in
+    omega (arith, r .if2 .left, inv .room, inv .long, start k .good .1 .1 .1 .0 .0))
+    (λ c κs. tt)
+    (λ c κs. (omega arith, within (due (room (c .before .before .before .before .before))), omega arith))
     back-long
     gives
-    (λ c. omega (arith, turns.some (looked (unit (due (room (c .before .before .before .before .before)))))))
+    (λ c. let d = due (room (c .before .before .before .before .before)) in omega (arith, within d, turns.some (looked (unit d))))
     goes
     (λ c κs. (omega arith, c .before .loop .inv .at, omega arith))
     (λ c. c .before .before .loop .inv .long)
