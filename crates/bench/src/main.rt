@@ -6,7 +6,7 @@ ghost use mathlib.Core.Bool.{true};
 ghost use mathlib.Core.Path.{_≡_};
 ghost use Prim.Native.Nat.{_≤_};
 ghost use lib.ListN.{length};
-ghost use Rattle.rule.specs.Run.{at as stamped};
+ghost use Rattle.rule.specs.Run.{at as atStamp};
 ghost use Rattle.rule.specs.Rule.{wholeRun};
 ghost use Rattle.rule.specs.Step.{steps};
 ghost use Rattle.rule.specs.Calls.{call as rules};
@@ -62,7 +62,7 @@ struct Ran {
 // Calls until all of a record's bytes are taken, at least once: a call on some bytes takes one at least, since the board is sound.
 fn offer(board: Board, stamp: u32, piece: &[u8]) -> Ran
     requires { ⌜ (soundBoard board ≡ true) × (board ≡ boardOf (stateOf board)) × (length (now piece) ≤ longestPiece) ⌝ }
-    ensures { λ r. ⌜ (r .board ≡ boardOf (steps protocol (stateOf board) (stamped stamp (now (piece .entry))) .next))
+    ensures { λ r. ⌜ (r .board ≡ boardOf (steps protocol (stateOf board) (atStamp stamp (now (piece .entry))) .next))
         × (r .calls ≡ callsFor (stateOf board) stamp (now (piece .entry))) ⌝ }
 {
     let mut cur = board;
