@@ -55,9 +55,9 @@ use Rattle.receiver.specs.Receive.{answer}
 use Rattle.receiver.proofs.Calls.{call-order, accept-some}
 use Rattle.demands.specs.Calls.{Answers}
 use Rattle.demands.specs.Reports.{Reports, Tells, time}
-use Rattle.demands.specs.Runs.{saidBy, inState, onBoard, heard, tokensOf, memoryBehind, wordBehind, Step, called, told, OfferedBy, done, next, Offered}
+use Rattle.demands.specs.Runs.{saidBy, inState, onBoard, heard, tokensOf, memoryBehind, wordBehind, Step, called, told, done, next, Offered}
 use Rattle.demands.proofs.Calls.{promise, rules, is-taken, is-order, is-state, written-is, keeps-sound, receive-some}
-use Rattle.demands.proofs.Reports.{report-promise, report-numbered, report-refused, report-accepted, report-keeps-sound, report-some}
+use Rattle.demands.proofs.Reports.{report-promise, report-refused, report-accepted, report-keeps-sound, report-some}
 
 -- ---- each step is the rule's
 

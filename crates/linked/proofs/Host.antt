@@ -202,11 +202,11 @@ number-given Rigt = refl
 number-given Home = refl
 number-given Loft = refl
 
-numbers-given : (qs : List Request) → map orderNumber (ordersOf qs) ≡ numbersAsked qs
-numbers-given [] = refl
-numbers-given (Get b ∷ qs) = numbers-given qs
-numbers-given (Set f ∷ qs) = numbers-given qs
-numbers-given (Give o ∷ qs) = λ i. number-given o i ∷ numbers-given qs i
+asked-numbers : (qs : List Request) → map orderNumber (ordersOf qs) ≡ numbersAsked qs
+asked-numbers [] = refl
+asked-numbers (Get b ∷ qs) = asked-numbers qs
+asked-numbers (Set f ∷ qs) = asked-numbers qs
+asked-numbers (Give o ∷ qs) = λ i. number-given o i ∷ asked-numbers qs i
 
 -- THE SEQUENCE OF P1, of what C and Rust link: on any board that is ready and whose fields fit their types
 pub asked-served : {b end : Board} {qs : List Request} {reply orders : List ℕ} (asked : Asked b qs reply orders end) → Ready b → TypedBoard b
@@ -217,7 +217,7 @@ asked-served {b = b} {qs = qs} asked can fit =
     let answers = answersTo (bookOf (b .memory .settings)) qs in
     record {
       accepted = x .3 (asked-accepted is can);
-      ordered = x .2 ∙ ap (map orderNumber) (asked-orders is can) ∙ numbers-given qs;
+      ordered = x .2 ∙ ap (map orderNumber) (asked-orders is can) ∙ asked-numbers qs;
       answered =
           λ off e.
           let y = off-is off in

@@ -23,7 +23,7 @@ use Rattle.names.proofs.Need.{need-law, need-some, need-most, need-zero, need-n
 use Rattle.unit.specs.Unit.{act}
 use Rattle.unit.specs.Protocol.{protocol}
 use Rattle.unit.specs.declared.Memory.{Memory}
-use Rattle.state.specs.State.{stateOf, boardOf, padded}
+use Rattle.state.specs.State.{stateOf, padded}
 use Rattle.state.specs.Returned.{Returned}
 use Rattle.state.specs.declared.Board.{Board}
 use Rattle.state.specs.declared.Call.{Call}

@@ -7,7 +7,7 @@ use native.Mathlib.Omega.{arith}
 use lib.ListN.{length}
 use lib.Seq.{take-length}
 use borrow.Author.Tests.{le-leb}
-use Rattle.rule.specs.Run.{byte, bytes, among, past, onward, lastStamp}
+use Rattle.rule.specs.Run.{bytes, among, past, onward, lastStamp}
 use Rattle.rule.specs.Framing.{Needs, whole, Cut, front, units, unitsOf}
 use Rattle.rule.specs.Rule.{with-line, Protocol, deal, wholeRun, stateAt}
 use Rattle.rule.specs.Step.{steps}

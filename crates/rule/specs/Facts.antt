@@ -5,7 +5,7 @@ use mathlib.Core.Bool.{false}
 use mathlib.Core.List.{List, [], _∷_, _++_}
 use lib.ListN.{length, getD, take, drop}
 use Rattle.rule.specs.Run.{Item, byte, at, late}
-use Rattle.rule.specs.Framing.{Token, whole, lost, seen, Front, ends, drops, stays, Cut}
+use Rattle.rule.specs.Framing.{Token, whole, lost, seen, Cut}
 use Rattle.rule.specs.Rule.{Said, State, Protocol}
 use Rattle.rule.specs.Step.{step, steps}
 use Rattle.rule.specs.Calls.{Called}

@@ -3,7 +3,6 @@ use mathlib.Core.Path.{_≡_, refl, sym, ap, subst, _∙_}
 use mathlib.Core.Bool.{Bool, true, false, not}
 use mathlib.Core.List.{List, [], _∷_}
 use Prim.Native.Nat.{ℕ}
-use native.Mathlib.Omega.{arith}
 use lib.Dec.{T, eqb, T-not}
 use lib.ListN.{getD}
 use borrow.Author.Tests.{eqb-true, eqb-false}
@@ -15,7 +14,7 @@ use Rattle.settings.specs.Settings.{dataAt, putAt, badAt}
 use Rattle.settings.proofs.Keep.{get-other}
 use Rattle.rule.specs.Framing.{Token, whole, lost, seen}
 use Rattle.rule.specs.Rule.{Said, deal}
-use Rattle.names.specs.Names.{kindAt, nameOf, nameIn, numbersOf, namesOf}
+use Rattle.names.specs.Names.{kindAt, nameIn, numbersOf, namesOf}
 use Rattle.names.specs.declared.Order.{Order}
 use Rattle.names.specs.declared.Kind.{Kind}
 use Rattle.names.specs.declared.Kind.the-variants.{Zero, Set, Get, Gives, Unknown}
