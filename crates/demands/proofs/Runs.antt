@@ -169,8 +169,8 @@ module _ {b : Board} {run : List (Item Event)} {x : Said Order Board} (h : Offer
     unfolding deal
     goes-on = dealt .1 ∙ ap (λ (ks : List (Token Event)). deal protocol (b .memory) ks .next) cut ∙ ap (λ (y : Said Order Memory). y .next) (deal-append protocol before (whole u ∷ after) (b .memory))
 
-    -- where it is a set, what is heard there is its reply, whole
-    heard-is : (k : ℕ) → kindAt u ≡ Set k → wordBehind (b .memory) before (x .reply) ≡ a .reply
+    -- where it is a set, what is heard there is its reply, whole: so what `Without` asks of sets in between can be heard too
+    pub heard-is : (k : ℕ) → kindAt u ≡ Set k → wordBehind (b .memory) before (x .reply) ≡ a .reply
     unfolding act
     heard-is k e =
         let long : length (a .reply) ≡ 4 = ap (λ (κ : Kind). length (does m u κ .reply)) e ∙ does-length m u (Set k) in
