@@ -1,8 +1,10 @@
-/* A board's main loop: stamped pieces in, replies out, orders to the drive, and the time reported when nothing comes. */
+/* A board's main loop: stamped pieces in, replies out, orders to the drive, the time reported when nothing comes, and the drive's position
+   when it has moved. */
 #include "rivertosku.h"
 
 #include <inttypes.h>
 #include <stdio.h>
+#include <stdlib.h>
 #include <string.h>
 
 struct arrival {
@@ -20,6 +22,10 @@ static const struct arrival line[] = {
     {1020, 25, {'s', 'b', 'r', 'k', 0xFE, 0xFF}},
     /* An order with zeros behind it. */
     {1030, 7, {'s', 't', 'o', 'p', 0, 0, 0}},
+    /* A move to step 2 and microstep -5. The stepper makes a step at each turn, and the second comes between the halves of gpos. */
+    {1040, 18, {'m', 'o', 'v', 'e', 2, 0, 0, 0, 0xFB, 0xFF, 0, 0, 0, 0, 0, 0, 0xDC, 0x3D}},
+    {1050, 2, {'g', 'p'}},
+    {1060, 2, {'o', 's'}},
     /* Half a command; the rest comes 401 ms later and is read as a new unit. */
     {2000, 2, {'l', 'e'}},
     {2401, 2, {'f', 't'}},
@@ -32,9 +38,45 @@ static const struct arrival line[] = {
     {3100, 2, {'f', 't'}},
 };
 
-static void drive(uint8_t order)
+/* A pretended stepper: whether it goes, and where to. */
+struct stepper {
+    int goes;
+    int32_t steps;
+    int16_t microsteps;
+};
+
+static void accepted(uint8_t number)
 {
-    printf("drive order %u\n", (unsigned)order);
+    if (number != RIVERTOSKU_ACCEPTED) {
+        printf("refused %u\n", (unsigned)number);
+        exit(1);
+    }
+}
+
+/* It goes by order 8 and stands still by any other. */
+static void drive(struct stepper *stepper, const struct rivertosku_answer *answer)
+{
+    stepper->goes = answer->order == RIVERTOSKU_MOVE;
+    stepper->steps = answer->steps;
+    stepper->microsteps = answer->microsteps;
+    printf("drive order %u", (unsigned)answer->order);
+    if (stepper->goes) {
+        printf(" to %" PRId32 ":%" PRId16, stepper->steps, stepper->microsteps);
+    }
+    printf("\n");
+}
+
+/* A step nearer, from where the board has it: a spos or a zero may have said so. The microsteps come with the last step. */
+static struct rivertosku_position step(struct stepper *stepper, struct rivertosku_position at)
+{
+    const int way = (at.steps < stepper->steps) - (at.steps > stepper->steps);
+    at.steps += way;
+    at.count += 4 * way; /* the encoder's */
+    if (at.steps == stepper->steps) {
+        at.microsteps = stepper->microsteps;
+        stepper->goes = 0;
+    }
+    return at;
 }
 
 static void send_reply(const uint8_t *reply, size_t length)
@@ -63,41 +105,61 @@ static void restart(const struct rivertosku_board *board)
     printf("from flash: %u, compared %u\n", (unsigned)rivertosku_judge(back), (unsigned)rivertosku_same(back, *board));
 }
 
+/* The time, when nothing came. */
+static void report_clock(struct rivertosku_board *board, uint32_t now)
+{
+    struct rivertosku_report report = rivertosku_report_clock(*board, now);
+    accepted(report.number);
+    if (report.board.count < board->count) {
+        printf("dropped %" PRIu64 "\n", board->count);
+    }
+    *board = report.board;
+}
+
+/* Where the drive is, when it has moved. */
+static void report_position(struct rivertosku_board *board, struct rivertosku_position at)
+{
+    struct rivertosku_report report = rivertosku_report_position(*board, at);
+    accepted(report.number);
+    *board = report.board;
+}
+
+/* A piece, offered until all of it is taken. */
+static void offer(struct rivertosku_board *board, const struct arrival *came, struct stepper *stepper)
+{
+    const uint8_t *piece = came->bytes;
+    size_t left = came->length;
+    while (left > 0) {
+        uint8_t reply[RIVERTOSKU_ROOM];
+        struct rivertosku_answer answer = rivertosku_receive(*board, piece, left, came->stamp, reply, sizeof reply);
+        accepted(answer.number);
+        *board = answer.board;
+        send_reply(reply, answer.written);
+        if (answer.order != RIVERTOSKU_NO_ORDER) {
+            drive(stepper, &answer);
+        }
+        piece += answer.taken;
+        left -= answer.taken;
+    }
+}
+
 int main(void)
 {
     struct rivertosku_board board = rivertosku_fresh();
+    struct stepper stepper = {0, 0, 0};
     for (size_t i = 0; i < sizeof line / sizeof line[0]; i++) {
         if (line[i].length == 0) {
-            struct rivertosku_report report = rivertosku_report_clock(board, line[i].stamp);
-            if (report.number != RIVERTOSKU_ACCEPTED) {
-                printf("refused %u\n", (unsigned)report.number);
-                return 1;
-            }
-            if (report.board.count < board.count) {
-                printf("dropped %" PRIu64 "\n", board.count);
-            }
-            board = report.board;
+            report_clock(&board, line[i].stamp);
         }
-        const uint8_t *piece = line[i].bytes;
-        size_t left = line[i].length;
-        while (left > 0) {
-            uint8_t reply[RIVERTOSKU_ROOM];
-            struct rivertosku_answer answer = rivertosku_receive(board, piece, left, line[i].stamp, reply, sizeof reply);
-            if (answer.number != RIVERTOSKU_ACCEPTED) {
-                printf("refused %u\n", (unsigned)answer.number);
-                return 1;
-            }
-            board = answer.board;
-            send_reply(reply, answer.written);
-            if (answer.order != RIVERTOSKU_NO_ORDER) {
-                drive(answer.order);
-            }
-            piece += answer.taken;
-            left -= answer.taken;
+        offer(&board, &line[i], &stepper);
+        if (stepper.goes) {
+            report_position(&board, step(&stepper, board.memory.position));
         }
     }
     printf("t1 %u, flags %" PRIu64 ", unfinished %" PRIu64 ", stamp %" PRIu32 "\n", (unsigned)board.memory.settings.brk.t1,
            board.memory.notes.flags, board.count, board.stamp);
+    const struct rivertosku_position at = board.memory.position;
+    printf("position %" PRId32 ":%" PRId16 ", count %" PRId64 "\n", at.steps, at.microsteps, at.count);
     restart(&board);
     return 0;
 }

@@ -22,7 +22,7 @@ extern "C" {
 
 /* The layouts of the structs below: the board's and the optimiser's. A function's name in the archive ends in its layout's number, so that a
    header and an archive of different layouts do not link, whichever function is used. */
-#define RIVERTOSKU_LAYOUT 1
+#define RIVERTOSKU_LAYOUT 2
 #define RIVERTOSKU_HOST_LAYOUT 1
 #define RIVERTOSKU_GLUE(name, number) name##number
 #define RIVERTOSKU_NUMBERED(name, number) RIVERTOSKU_GLUE(name, number)
@@ -31,6 +31,7 @@ extern "C" {
 #define rivertosku_same RIVERTOSKU_NUMBERED(rivertosku_same_, RIVERTOSKU_LAYOUT)
 #define rivertosku_receive RIVERTOSKU_NUMBERED(rivertosku_receive_, RIVERTOSKU_LAYOUT)
 #define rivertosku_report_clock RIVERTOSKU_NUMBERED(rivertosku_report_clock_, RIVERTOSKU_LAYOUT)
+#define rivertosku_report_position RIVERTOSKU_NUMBERED(rivertosku_report_position_, RIVERTOSKU_LAYOUT)
 #define rivertosku_write_get RIVERTOSKU_NUMBERED(rivertosku_write_get_, RIVERTOSKU_HOST_LAYOUT)
 #define rivertosku_write_order RIVERTOSKU_NUMBERED(rivertosku_write_order_, RIVERTOSKU_HOST_LAYOUT)
 #define rivertosku_write_set RIVERTOSKU_NUMBERED(rivertosku_write_set_, RIVERTOSKU_HOST_LAYOUT)
@@ -43,15 +44,17 @@ extern "C" {
 #define RIVERTOSKU_PIECE 250
 #define RIVERTOSKU_ROOM RIVERTOSKU_FRAME
 
-/* The number of a call's answer, and of a report's, which is 0 or 3. A refused call takes and writes nothing; the board stays as it is. */
+/* The number of a call's answer, and of a report's: of the time 0 or 3, of the position 0, 3 or 5. A refused call takes and writes nothing;
+   the board stays as it is. */
 enum {
     RIVERTOSKU_ACCEPTED = 0,
-    RIVERTOSKU_PIECE_TOO_LONG = 1, /* piece over RIVERTOSKU_PIECE bytes */
-    RIVERTOSKU_ROOM_TOO_SMALL = 2, /* reply room under RIVERTOSKU_ROOM bytes */
-    RIVERTOSKU_UNSOUND = 3         /* no board can be in this state */
+    RIVERTOSKU_PIECE_TOO_LONG = 1,         /* piece over RIVERTOSKU_PIECE bytes */
+    RIVERTOSKU_ROOM_TOO_SMALL = 2,         /* reply room under RIVERTOSKU_ROOM bytes */
+    RIVERTOSKU_UNSOUND = 3,                /* no board can be in this state */
+    RIVERTOSKU_MICROSTEPS_OUT_OF_RANGE = 5 /* a position with microsteps outside -255..255 */
 };
 
-/* Blocks. */
+/* Blocks. The last three are no settings: they stand in the notes, and the optimiser's end does not know them. */
 enum {
     RIVERTOSKU_MOV = 1,
     RIVERTOSKU_ENG = 2,
@@ -59,10 +62,14 @@ enum {
     RIVERTOSKU_EDS = 4,
     RIVERTOSKU_HOM = 5,
     RIVERTOSKU_BRK = 6,
-    RIVERTOSKU_PID = 7
+    RIVERTOSKU_PID = 7,
+    RIVERTOSKU_MOVE = 8,
+    RIVERTOSKU_MOVR = 9,
+    RIVERTOSKU_SPOS = 10
 };
 
-/* How long a block's frame is: its set, and the answer to its get. A get, an order, an echo and an error have 4 bytes. */
+/* How long a block's frame is: its set, and the answer to its get, or to gpos. A get, zero, an order without steps, an echo and an error
+   have 4 bytes. */
 enum {
     RIVERTOSKU_MOV_FRAME = 30,
     RIVERTOSKU_ENG_FRAME = 34,
@@ -70,10 +77,13 @@ enum {
     RIVERTOSKU_EDS_FRAME = 26,
     RIVERTOSKU_HOM_FRAME = 33,
     RIVERTOSKU_BRK_FRAME = 25,
-    RIVERTOSKU_PID_FRAME = 48
+    RIVERTOSKU_PID_FRAME = 48,
+    RIVERTOSKU_MOVE_FRAME = 18,
+    RIVERTOSKU_MOVR_FRAME = 18,
+    RIVERTOSKU_SPOS_FRAME = 26
 };
 
-/* Orders. */
+/* Orders. RIVERTOSKU_MOVE and RIVERTOSKU_MOVR, as above, are orders too and carry steps and microsteps. */
 enum {
     RIVERTOSKU_NO_ORDER = 0,
     RIVERTOSKU_STOP = 1,
@@ -183,14 +193,22 @@ struct rivertosku_notes {
     uint64_t field;
 };
 
-/* What a board remembers of the units that have ended. */
+/* Where the drive stands: microsteps -255..255, and its encoder's count. */
+struct rivertosku_position {
+    int32_t steps;
+    int16_t microsteps;
+    int64_t count;
+};
+
+/* What a board remembers of the units that have ended, and the position. */
 struct rivertosku_memory {
     struct rivertosku_settings settings;
     struct rivertosku_notes notes;
+    struct rivertosku_position position;
 };
 
-/* What a board keeps between calls. Read it as you like; change it by rivertosku_receive and rivertosku_report_clock only. The gaps of the
-   structs are not set: two boards that are the same need not be the same bytes, in memory or in flash. Compare by rivertosku_same. */
+/* What a board keeps between calls. Read it as you like; change it by rivertosku_receive and the reports only. The gaps of the structs are
+   not set: two boards that are the same need not be the same bytes, in memory or in flash. Compare by rivertosku_same. */
 struct rivertosku_board {
     struct rivertosku_memory memory;
     uint8_t held[RIVERTOSKU_FRAME]; /* the bytes of the unfinished unit stand in front; behind them zeros, after each call that takes a byte */
@@ -200,10 +218,12 @@ struct rivertosku_board {
 
 struct rivertosku_answer {
     struct rivertosku_board board;
-    uint64_t taken;   /* bytes of the piece; offer the rest again with its stamp */
-    uint64_t written; /* reply bytes, to be sent */
-    uint8_t number;   /* 0 accepted, else the refusal */
-    uint8_t order;    /* to be carried out now, 0 for none */
+    uint64_t taken;     /* bytes of the piece; offer the rest again with its stamp */
+    uint64_t written;   /* reply bytes, to be sent */
+    int32_t steps;      /* where RIVERTOSKU_MOVE goes to, or how far RIVERTOSKU_MOVR goes; 0 with any other order */
+    int16_t microsteps; /* and these, -255..255 */
+    uint8_t number;     /* 0 accepted, else the refusal */
+    uint8_t order;      /* to be carried out now, 0 for none */
 };
 
 struct rivertosku_report {
@@ -218,8 +238,8 @@ struct rivertosku_board rivertosku_fresh(void);
    with one judges it before the first call. */
 uint8_t rivertosku_judge(struct rivertosku_board board);
 
-/* Whether two boards are the same: stamp, notes, unfinished bytes, and each block as a get sends it, so minus zero is not zero. Spare bytes
-   and gaps play no part. RIVERTOSKU_SAME, RIVERTOSKU_ANOTHER, or RIVERTOSKU_UNSOUND where one of the two is. In libsame.a. */
+/* Whether two boards are the same: stamp, notes, position, unfinished bytes, and each block as a get sends it, so minus zero is not zero.
+   Spare bytes and gaps play no part. RIVERTOSKU_SAME, RIVERTOSKU_ANOTHER, or RIVERTOSKU_UNSOUND where one of the two is. In libsame.a. */
 enum {
     RIVERTOSKU_SAME = 0,
     RIVERTOSKU_ANOTHER = 1
@@ -239,6 +259,10 @@ struct rivertosku_answer rivertosku_receive(struct rivertosku_board board, const
    or once a minute is plenty. Bytes that came earlier and are not yet taken may be offered behind a report, with their own stamp.
    Never report a time from before the last stamp handed over: it reads as a wait of 49 days, and drops a live command. */
 struct rivertosku_report rivertosku_report_clock(struct rivertosku_board board, uint32_t now);
+
+/* A report of the drive's position. It becomes the board's, which gpos sends; nothing else changes, an unfinished unit stays, and the last
+   stamp. RIVERTOSKU_MICROSTEPS_OUT_OF_RANGE changes nothing. Report the position whenever the drive has moved. */
+struct rivertosku_report rivertosku_report_position(struct rivertosku_board board, struct rivertosku_position position);
 
 /* The optimiser's end, in liboptimiser.a. */
 
@@ -305,7 +329,7 @@ struct rivertosku_written rivertosku_write_set(uint8_t block, struct rivertosku_
 /* One answer from the front of what the board sent. A gain that is no number comes as some NaN. */
 struct rivertosku_reading rivertosku_read(const uint8_t *bytes, size_t bytes_len);
 
-/* The sizes, as Rust has them (rust/src/blocks.rs, board.rs and host.rs, tests sizes), and the field behind each gap. */
+/* The sizes, as Rust has them (rust/src/blocks.rs, position.rs, board.rs and host.rs, tests sizes), and the field behind each gap. */
 #define RIVERTOSKU_AT(name, field, place) static_assert(offsetof(struct rivertosku_##name, field) == place, #name "." #field)
 static_assert(sizeof(size_t) == 8, "the archives are for a 64-bit machine");
 static_assert(sizeof(struct rivertosku_mov) == 20, "mov");
@@ -329,11 +353,14 @@ static_assert(sizeof(struct rivertosku_settings) == 128, "settings");
 RIVERTOSKU_AT(settings, eds, 52);
 RIVERTOSKU_AT(settings, pid, 108);
 static_assert(sizeof(struct rivertosku_notes) == 24, "notes");
-static_assert(sizeof(struct rivertosku_memory) == 152, "memory");
+static_assert(sizeof(struct rivertosku_position) == 16, "position");
+RIVERTOSKU_AT(position, count, 8);
+static_assert(sizeof(struct rivertosku_memory) == 168, "memory");
 /* The held bytes fill whole words; count and stamp follow. */
-static_assert(sizeof(struct rivertosku_board) == 152 + (RIVERTOSKU_FRAME + 7) / 8 * 8 + 16, "board");
-RIVERTOSKU_AT(board, count, 152 + (RIVERTOSKU_FRAME + 7) / 8 * 8);
+static_assert(sizeof(struct rivertosku_board) == 168 + (RIVERTOSKU_FRAME + 7) / 8 * 8 + 16, "board");
+RIVERTOSKU_AT(board, count, 168 + (RIVERTOSKU_FRAME + 7) / 8 * 8);
 static_assert(sizeof(struct rivertosku_answer) == 24 + sizeof(struct rivertosku_board), "answer");
+RIVERTOSKU_AT(answer, number, 22 + sizeof(struct rivertosku_board));
 static_assert(sizeof(struct rivertosku_report) == 8 + sizeof(struct rivertosku_board), "report");
 RIVERTOSKU_AT(report, board, 8);
 static_assert(sizeof(struct rivertosku_blocks) == 128, "blocks");

@@ -7,7 +7,7 @@ import sys
 
 sys.dont_write_bytecode = True
 import model
-from model import ANY, BITS, BLOCKS, FRAME, ORDERS, PIECE, Board, crc, first_bad, frame, fresh, number_of, section
+from model import ANY, BITS, BLOCKS, FRAME, ORDERS, PIECE, ROWS, TRAVELS, Board, crc, first_bad, frame, fresh, number_of, section, shown
 from store import store
 
 ROOM = 250  # of a call, where its case does not say
@@ -21,6 +21,11 @@ def empty(size):
 def wide(data, size=FRAME):
     """The front of a buffer in which these bytes stand."""
     return data + empty(size - len(data))
+
+
+def packed(position):
+    """A position in a case: steps, microsteps and count."""
+    return struct.pack('<ihq', *position)
 
 
 class Player:
@@ -43,7 +48,7 @@ class Player:
 
     def rest(self):
         b = self.board
-        return b.flags, *b.refused, b.count, b.held[:b.count], b.last
+        return b.flags, *b.refused, shown(b.kept['pos']), b.count, b.held[:b.count], b.last
 
     # ---- the board
 
@@ -53,11 +58,15 @@ class Player:
 
     def put(self, block, data):
         self.case('p', number_of(block), data=data)
-        self.board.settings[block] = model.numbers_in(block, data)
+        self.board.kept[block] = model.numbers_in(block, data)
 
     def note(self, flags, block, field):
         self.case('n', data=struct.pack('<III', flags, block, field))
         self.board.flags, self.board.refused = flags, (block, field)
+
+    def place(self, position):
+        self.case('w', data=packed(position))
+        self.board.kept['pos'] = position
 
     def hold(self, data, count, stamp=0):
         self.case('h', room=count, stamp=stamp, data=data)
@@ -66,17 +75,22 @@ class Player:
     def call(self, piece, stamp=7, room=ROOM, show=0):
         self.case('c', show, room, stamp, piece)
         number, taken, order, reply = self.board.call(piece, stamp, room)
-        self.line(number, taken, len(reply), order, wide(reply, show), *self.rest())
+        self.line(number, taken, len(reply), shown(order), wide(reply, show), *self.rest())
         return reply
 
     def report(self, now):
         self.case('r', stamp=now)
-        number = self.board.report(now)
+        number = self.board.report_time(now)
+        self.line(number, *self.rest())
+
+    def drive(self, position):
+        self.case('d', data=packed(position))
+        number = self.board.report_position(position)
         self.line(number, *self.rest())
 
     def block(self, block):
         self.case('b', number_of(block))
-        numbers = self.board.settings[block]
+        numbers = self.board.kept[block]
         self.line(first_bad(block, numbers), wide(section(block, numbers)))
 
     def keeps(self):
@@ -127,8 +141,11 @@ FIELDS = {
     'hom': ['FastHome', 'uFastHome', 'SlowHome', 'uSlowHome', 'HomeDelta', 'uHomeDelta', 'HomeFlags'],
     'brk': ['t1', 't2', 't3', 't4', 'BrakeFlags'],
     'pid': ['KpU', 'KiU', 'KdU', 'Kpf', 'Kif', 'Kdf'],
+    'move': ['Position', 'uPosition'],
+    'movr': ['DeltaPosition', 'uDeltaPosition'],
+    'spos': ['Position', 'uPosition', 'EncPosition', 'PosFlags'],
 }
-# a good set of each block, whose numbers tell its fields apart
+# a good set of each block and of 8 to 10, whose numbers tell its fields apart
 SETS = {
     'mov': [100000, 17, 1, 65535, 258, 255],
     'eng': [1, 8000, 100000, 2, 3, -4, 9, 200],
@@ -137,6 +154,9 @@ SETS = {
     'hom': [100000, 1, 2, 3, -4, 255, 5],
     'brk': [65535, 1, 2, 3, 3],
     'pid': [1, 2, 3, 0x80000000, 0x3F000000, 0x3F800000],
+    'move': [-70000, 21],
+    'movr': [70000, -21],
+    'spos': [-3, 4, -5000000000, 0],
 }
 GAINS = [0x80000000, 1, 0x7F7FFFFF, 0x7F800000, 0x7FC00001]  # -0.0, the least above 0, the largest finite, infinity, a NaN
 
@@ -168,6 +188,7 @@ def replaced(block, numbers, k, n):
 
 SPWR = b'spwr\xff\xff' + bytes(14)
 STOP = b'stop'
+UNKNOWN = b'gets'  # a command of 004 that no request has named
 
 
 def sheet(p):
@@ -205,12 +226,14 @@ def sheet(p):
 
 def unsound(p):
     """A board for each rule of soundness, broken; each range is broken in `fields`."""
-    brk = frame('brk', fresh('brk'))
+    brk, move, spos = (frame(name, fresh(name)) for name in ('brk', 'move', 'spos'))
     for label, held, count in [
             ('unknown name', b'x', 4), ('a get', b'gmov', 4), ('an order', b'stop', 4), ('whole set', brk, 25), ('longer than its set', brk, 26),
             ('49 bytes', b'x', FRAME + 1), ('49 bytes of a set', b'spid', FRAME + 1), ('65535 bytes', b'spid', 65535), ('zero in front', b'\0mov', 3),
+            ('gpos', b'gpos', 4), ('the name zero', b'zero', 4), ('whole move', move, 18), ('whole movr', b'movr', 18), ('whole spos', spos, 26),
             # and sound ones, close by
-            ('one byte short', brk[:24], 24), ('three bytes', b'xxx', 3), ('a name', b'spid', 4), ('47 bytes', b'spid', FRAME - 1)]:
+            ('one byte short', brk[:24], 24), ('three bytes', b'xxx', 3), ('a name', b'spid', 4), ('47 bytes', b'spid', FRAME - 1),
+            ('move, one byte short', move, 17), ('movr, one byte short', b'movr', 17), ('spos, one byte short', spos, 25)]:
         p.fresh()
         p.hold(held, count)
         p.say(label)
@@ -225,6 +248,17 @@ def unsound(p):
         p.put(block, bytes(model.total(block) - 6))
         p.say(f'{block} all zero')
         p.call(STOP)
+    for microsteps in (-32768, -256, -255, 255, 256, 32767):
+        p.fresh()
+        p.place([1, microsteps, 2])
+        p.say(f'position, microsteps {microsteps}')
+        p.call(STOP)
+        p.say('  clock 1000')
+        p.report(1000)
+        p.say('  drive, microsteps 256')
+        p.drive([3, 256, 4])
+        p.say('  drive, microsteps 255')
+        p.drive([3, 255, 4])
     p.fresh()
     p.note(4, 255, 2**32 - 1)
     p.say('any refused block and field')
@@ -241,8 +275,9 @@ def one_more(data, place):
 def stops(p):
     """The three causes for which a call stops: for each reply, a room that it fills and one that is a byte short; an order; the piece's end."""
     for label, last, size in [
-            ('zero', b'\0', 1), ('errc', b'move', 4), ('errd', b'spwr' + bytes(16), 4), ('errv', SPWR, 4), ('order', STOP, 4),
-            ('set', frame('pwr', SETS['pwr']), 4), ('get', b'gpwr', 20)]:
+            ('zero', b'\0', 1), ('errc', UNKNOWN, 4), ('errd', b'spwr' + bytes(16), 4), ('errv', SPWR, 4), ('order', STOP, 4),
+            ('set', frame('pwr', SETS['pwr']), 4), ('get', b'gpwr', 20), ('move', frame('move', SETS['move']), 4),
+            ('spos', frame('spos', SETS['spos']), 4), ('gpos', b'gpos', 26), ('the name zero', b'zero', 4)]:
         for room in (FRAME - 1 + size, FRAME + size):
             p.fresh()
             p.say(f'{label} behind {FRAME} bytes, room {room}')
@@ -317,7 +352,7 @@ def requests(p):
     for order in ORDERS:
         p.say(f'order {order} write')
         exchange(p, ' ', p.order(order))
-    exchange(p, 'unknown', b'move')
+    exchange(p, 'unknown', UNKNOWN)
     exchange(p, 'damaged', b'spwr' + bytes(16))
     exchange(p, 'HoldCurrent 255', SPWR)
     exchange(p, 'zero', b'\0')
@@ -346,7 +381,8 @@ def refusals(p):
     gains = section('pid', [1, 2, 3, 0x7FA00001, 0xFF800000, 0x80000000])
     for label, data in [
             ('nothing', b''), ('zero', b'\0'), ('zero, then more', b'\0mov'), ('three bytes', b'gmo'), ("no answer's name", b'move'),
-            ('a later command, cut', b'gpos\0\0'), ('cut', b'gpwr' + bytes(15)), ('wrong CRC', b'gpwr' + bytes(16)),
+            ('a later command, cut', b'gpos\0\0'), ('a later command', model.framed('gpos', bytes(20))), ('the name zero', b'zero'),
+            ('cut', b'gpwr' + bytes(15)), ('wrong CRC', b'gpwr' + bytes(16)),
             ('HoldCurrent 255, reserved not zero', model.framed('gpwr', power)), ('gains not finite', model.framed('gpid', gains)),
             ('errc, then more', b'errcerrd'), ('errd', b'errd'), ('errv, cut', b'err')]:
         p.say(f'{label} read')
@@ -358,40 +394,130 @@ def refusals(p):
             p.answer(part)
 
 
+def session(p, label, *events):
+    """What happens to a fresh board: bytes with their stamp, None with a time that is reported, a position that the drive reports with None."""
+    p.fresh()
+    for what, stamp in events:
+        if what is None:
+            p.say(f'{label}, clock {stamp}')
+            p.report(stamp)
+        elif stamp is None:
+            p.say(f'{label}, drive')
+            p.drive(what)
+        else:
+            p.say(f'{label}, bytes {stamp}')
+            p.call(what, stamp, FRAME)
+
+
 def reports(p):
     """02, P3: reports of the time among calls."""
-    def session(label, *events):
-        p.fresh()
-        for what, stamp in events:
-            p.say(f'{label}, ' + ('clock' if what is None else 'bytes') + f' {stamp}')
-            if what is None:
-                p.report(stamp)
-            else:
-                p.call(what, stamp, FRAME)
     # half a command and, 2^32 + 100 ms later, the rest of it: the counter has come round, and nobody told the time
-    session('not told', (b'st', 0), (b'op', 100))
+    session(p, 'not told', (b'st', 0), (b'op', 100))
     for label, first, now, last in [
             ('told after 400 ms', 0, 400, 100), ('told after 401 ms', 0, 401, 100), ('told after a day', 0, 86400000, 100),
             ('400 ms across the wrap', 4294967200, 304, 4), ('401 ms across the wrap', 4294967200, 305, 4)]:
-        session(label, (b'st', first), (None, now), (b'op', last))
+        session(p, label, (b'st', first), (None, now), (b'op', last))
     # a call stops, the time is reported, and the rest of its piece is offered with its own stamp
     for now in (1400, 1401):
-        session(f'{now - 1000} ms, then the rest', (b'gpidgpid', 1000), (None, now), (b'd', 1000))
+        session(p, f'{now - 1000} ms, then the rest', (b'gpidgpid', 1000), (None, now), (b'd', 1000))
     # a report restarts no wait; with nothing unfinished it changes nothing
-    session('two reports', (b'st', 0), (None, 300), (None, 500))
-    session('nothing unfinished', (STOP, 600), (None, 4000000000))
+    session(p, 'two reports', (b'st', 0), (None, 300), (None, 500))
+    session(p, 'nothing unfinished', (STOP, 600), (None, 4000000000))
     p.fresh()
     p.hold(b'\0', 1)
     p.say('unfinished 00, clock 1000')
     p.report(1000)
 
 
+STOOD, REPORTED = [7, -8, 9], [-2147483648, 255, 9223372036854775807]
+
+
+def travels(p):
+    """02, P5: blocks 8 to 10 on a board that stands somewhere, every field at its edges, every flag, each byte of the CRC wrong; then gpos."""
+    def on_placed(label, unit):
+        p.fresh()
+        p.place(STOOD)
+        p.say(label)
+        p.call(unit)
+        p.say('  gpos')
+        p.call(b'gpos')
+    for name in TRAVELS:
+        good = SETS[name]
+        for k, field in enumerate(ROWS[name][0]):
+            for n in edges(field):
+                on_placed(f'{name} {FIELDS[name][k]} {n}', model.framed(name, replaced(name, good, k, n)))
+        on_placed(f'{name}, reserved not zero', frame(name, good, reserved=255))
+        for place in (-2, -1):
+            on_placed(f'{name} wrong CRC', one_more(frame(name, good), place))
+    on_placed('move, both least', frame('move', [-2147483648, -255]))
+    on_placed('movr, both largest', frame('movr', [2147483647, 255]))
+    for flags in range(5):
+        for microsteps in (-256, -255, 255, 256):
+            on_placed(f'spos, flags {flags}, microsteps {microsteps}', frame('spos', [-3, microsteps, -5000000000, flags]))
+    # 004's worked frame, whose CRC is of other bytes, and with the CRC of its own
+    for last in ('53c7', '869c'):
+        on_placed(f"004's movr, CRC {last}", b'movr\xc8' + bytes(11) + bytes.fromhex(last))
+
+
+def zeros(p):
+    """02, P5: zero while a count stands, between sets, and within a piece, which it does not stop; a move does."""
+    for count in (0, -1, -2**63, 2**63 - 1):
+        p.fresh()
+        p.place([-2147483648, 255, count])
+        p.say(f'zero, count {count}')
+        p.call(b'zero')
+        p.say('  gpos')
+        p.call(b'gpos')
+    steps, counted, move, movr = frame('spos', [1, 2, 3, 2]), frame('spos', [4, 5, 6, 1]), *(frame(name, SETS[name]) for name in ('move', 'movr'))
+    session(p, 'zero between sets', *((unit, 7) for unit in (steps, b'zero', counted, b'zero', frame('mov', SETS['mov']), b'zero', b'gmov', steps)))
+    session(p, 'zero in a piece', (steps + b'zerogpos' + steps + b'zero', 7))
+    piece = b'gpos' + move + steps + b'gpos' + movr + b'zerogpos'
+    session(p, 'moves in a piece', (piece, 7), (piece[22:], 7), (piece[70:], 7))
+
+
+def inside(p, label, unit, places):
+    """A report of the drive at each of these places of a unit."""
+    for place in places:
+        session(p, f'{label} cut at {place}', (unit[:place], 7), (REPORTED, None), (unit[place:], 7))
+
+
+def drives(p):
+    """02, P5: reports of the drive among calls: each number at its edges, inside every command, and what they leave."""
+    for k, field in enumerate(ROWS['pos'][0]):
+        for n in edges(field):
+            told = STOOD[:k] + [n] + STOOD[k + 1:]
+            session(p, f'told {shown(told)}', (b'gpos', 7), (told, None), (b'gpos', 7))
+    for name in ('gpos', 'zero', *TRAVELS):
+        unit = frame(name, SETS[name]) if name in TRAVELS else name.encode()
+        inside(p, name, unit, range(1, len(unit)))
+    for name in [*ORDERS, *('g' + block for block in BLOCKS), UNKNOWN.decode()]:
+        inside(p, name, name.encode(), [2])
+    for block in BLOCKS:
+        unit = frame(block, SETS[block])
+        inside(p, f'set {block}', unit, [len(unit) // 2])
+    for flags in (1, 2, 3):
+        inside(p, f'spos, flags {flags}', frame('spos', SETS['spos'][:3] + [flags]), [25])
+    # one that is refused is none; any other keeps what is unfinished, and the wait goes on
+    session(p, 'refused', (b'gp', 7), ([1, 256, 2], None), (b'os', 7))
+    for now in (400, 401):
+        session(p, f'told, then {now} ms', (b'st', 0), (STOOD, None), (b'op', now))
+        session(p, f'told, then the time {now}', (b'st', 0), (STOOD, None), (None, now), (b'op', 100))
+    move = frame('move', SETS['move'])
+    for now in (400, 401):
+        session(p, f'half a move, then {now} ms', (move[:9], 0), (None, now), (move[9:], 100))
+    p.fresh()
+    p.hold(b'\0', 1)
+    p.say('unfinished 00, drive')
+    p.drive(STOOD)
+
+
 def buffers(p):
     """Bytes past the reply keep their value; spare bytes held are zero after a call that took a byte, and no cause for 3."""
     for label, piece, room in [
-            ('nothing', b'', FRAME), ('no reply', b'sto', FRAME), ('zero', b'\0', FRAME), ('errc', b'move', FRAME),
+            ('nothing', b'', FRAME), ('no reply', b'sto', FRAME), ('zero', b'\0', FRAME), ('errc', UNKNOWN, FRAME),
             ('errd', b'spwr' + bytes(16), FRAME), ('errv', SPWR, FRAME), ('set', frame('brk', SETS['brk']), FRAME), ('get', b'gpwr', FRAME),
-            ('order', b'home\0', FRAME), ('five replies', b'\0gpwrmove\0gbrk', 64), ('all of the room', b'gpid', FRAME),
+            ('order', b'home\0', FRAME), ('move', frame('move', SETS['move']) + b'\0', FRAME), ('gpos', b'gpos', FRAME),
+            ('five replies', b'\0gpwr' + UNKNOWN + b'\0gbrk', 64), ('all of the room', b'gpid', FRAME),
             ('one byte left', b'gpid\0\0', FRAME + 1), ('refused', b'stop', FRAME - 1), ('refused', b'x' * (PIECE + 1), FRAME)]:
         p.fresh()
         p.say(f'buffer, room {room}, {label}')
@@ -419,7 +545,7 @@ def arithmetic(p):
 
 def main():
     p = Player()
-    for cases in (arithmetic, sheet, unsound, stops, blocks, fields, requests, refusals, reports, buffers):
+    for cases in (arithmetic, sheet, unsound, stops, blocks, fields, requests, refusals, reports, travels, zeros, drives, buffers):
         cases(p)
     folder = os.path.join(os.path.dirname(os.path.abspath(__file__)), '..', 'crates', 'player')
     store(folder, {'stdin': p.stdin, 'stdout': p.stdout.encode()})

@@ -1,7 +1,7 @@
 """The board and the host in Python, written from sheets 01 and 02 alone, for ./make.py and ../traces: it shares nothing with the crates."""
 import struct
 
-# name: fields (format, least, most) or (format, BITS, known bits), reserved bytes; in 01's order
+# A row is fields (format, least, most) or (format, BITS, known bits), and reserved bytes. The blocks by name, in 01's order
 ANY = None
 BITS = 'bits'
 BLOCKS = {
@@ -13,8 +13,15 @@ BLOCKS = {
     'brk': ([('H', ANY), ('H', ANY), ('H', ANY), ('H', ANY), ('B', BITS, 0x03)], 10),
     'pid': ([('H', ANY), ('H', ANY), ('H', ANY), ('F', ANY), ('F', ANY), ('F', ANY)], 24),
 }
-NAMES = list(BLOCKS)
+# 02, P5: the position, and the sets of blocks 8 to 10, by the set's own name
+POSITION = ([('i', ANY), ('h', -255, 255), ('q', ANY)], 6)
+TRAVEL = ([('i', ANY), ('h', -255, 255)], 6)
+TRAVELS = {'move': TRAVEL, 'movr': TRAVEL, 'spos': (POSITION[0] + [('B', BITS, 0x03)], 5)}
+KEPT = {**BLOCKS, 'pos': POSITION}  # what a board keeps, and its gets send
+ROWS = {**KEPT, **TRAVELS}
+NUMBERED = [*BLOCKS, *TRAVELS]
 ORDERS = ['stop', 'sstp', 'pwof', 'left', 'rigt', 'home', 'loft']
+NO_ORDER = (0,)  # an order is its number, and the steps and microsteps that it carries
 ERRORS = ['errc', 'errd', 'errv']
 NAN = 0x7FC00000
 PIECE = 250  # the longest piece
@@ -23,8 +30,16 @@ PIECE = 250  # the longest piece
 # ---- blocks
 
 def number_of(name):
-    """A block's number in 01."""
-    return NAMES.index(name) + 1
+    """A block's number in 01 and 02."""
+    return NUMBERED.index(name) + 1
+
+
+def set_name(name):
+    return name if name in TRAVELS else 's' + name
+
+
+SETS = {set_name(name): name for name in NUMBERED}
+GETS = {'g' + name: name for name in KEPT}
 
 
 def crc(data):
@@ -37,14 +52,14 @@ def crc(data):
 
 
 def layout(name):  # a float is kept as its 32 bits
-    return '<' + ''.join(f[0] for f in BLOCKS[name][0]).replace('F', 'I')
+    return '<' + ''.join(f[0] for f in ROWS[name][0]).replace('F', 'I')
 
 
 def total(name):
-    return 4 + struct.calcsize(layout(name)) + BLOCKS[name][1] + 2
+    return 4 + struct.calcsize(layout(name)) + ROWS[name][1] + 2
 
 
-FRAME = max(map(total, NAMES))  # the longest frame, which is the least room and what the board can hold
+FRAME = max(map(total, ROWS))  # the longest frame, which is the least room and what the board can hold
 
 
 def passes(field, n):
@@ -57,21 +72,21 @@ def passes(field, n):
 
 def first_bad(name, numbers):
     """The number of the first field out of its range, or 0."""
-    return next((k + 1 for k, f in enumerate(BLOCKS[name][0]) if not passes(f, numbers[k])), 0)
+    return next((k + 1 for k, f in enumerate(ROWS[name][0]) if not passes(f, numbers[k])), 0)
 
 
 def fresh(name):
-    return [next(n for n in range(20) if passes(f, n)) for f in BLOCKS[name][0]]
+    return [next(n for n in range(20) if passes(f, n)) for f in ROWS[name][0]]
 
 
 def section(name, numbers, reserved=0):
-    return struct.pack(layout(name), *numbers) + bytes([reserved]) * BLOCKS[name][1]
+    return struct.pack(layout(name), *numbers) + bytes([reserved]) * ROWS[name][1]
 
 
 def numbers_in(name, data):
     """The fields of a data section. Every NaN pattern is the one NaN."""
     numbers = struct.unpack_from(layout(name), data)
-    return [NAN if f[0] == 'F' and n % 2**31 > 0x7F800000 else n for f, n in zip(BLOCKS[name][0], numbers)]
+    return [NAN if f[0] == 'F' and n % 2**31 > 0x7F800000 else n for f, n in zip(ROWS[name][0], numbers)]
 
 
 def framed(name, data, wrong=0):
@@ -81,16 +96,21 @@ def framed(name, data, wrong=0):
 
 def frame(name, numbers, reserved=0, wrong=0):
     """A set's frame; `wrong` goes into its CRC."""
-    return framed('s' + name, section(name, numbers, reserved), wrong)
+    return framed(set_name(name), section(name, numbers, reserved), wrong)
 
 
 # ---- the board
+
+def shown(values):
+    """An order, or a position, as the programs print it."""
+    return ':'.join(map(str, values))
+
 
 class Board:
     """The bytes held, `count` of which are unfinished, and the rest of a board's state. A board may be made that is not sound."""
 
     def __init__(self):
-        self.settings, self.flags, self.refused = {b: fresh(b) for b in BLOCKS}, 0, (0, 0)
+        self.kept, self.flags, self.refused = {name: fresh(name) for name in KEPT}, 0, (0, 0)
         self.held, self.count, self.last = bytes(FRAME), 0, 0
 
     def hold(self, unit):
@@ -101,50 +121,59 @@ class Board:
         if self.count < 4:
             return self.count == 0 or self.held[0] != 0
         name = self.held[:4].decode('latin1')
-        return name[0] == 's' and name[1:] in BLOCKS and self.count < total(name[1:])
+        return name in SETS and self.count < total(SETS[name])
 
     def is_sound(self):
-        return self.is_begun() and self.flags <= 7 and not any(first_bad(b, self.settings[b]) for b in BLOCKS)
+        return self.is_begun() and self.flags <= 7 and not any(first_bad(*kept) for kept in self.kept.items())
 
     def answer(self, unit):
-        """Reply, order, and a flag with the field refused, or a setting, of a whole unit; None where it is not whole yet."""
+        """Reply, order, and a flag with the field refused, or what is to be kept, of a whole unit; None where it is not whole yet."""
         if unit[0] == 0:
-            return b'\0', 0, None
+            return b'\0', NO_ORDER, None
         if len(unit) < 4:
             return None
         name = unit[:4].decode('latin1')
-        block = name[1:] if name[0] in 'sg' and name[1:] in BLOCKS else None
         if name in ORDERS:
-            return unit[:4], ORDERS.index(name) + 1, None
-        if block is None:
-            return b'errc', 0, (1, None)
-        if name[0] == 'g':
-            return framed(name, section(block, self.settings[block])), 0, None
-        if len(unit) < total(block):
-            return None
+            return unit[:4], (ORDERS.index(name) + 1,), None
+        if name == 'zero':
+            return unit[:4], NO_ORDER, ('pos', [0, 0, self.kept['pos'][2]])
+        if name in GETS:
+            return framed(name, section(GETS[name], self.kept[GETS[name]])), NO_ORDER, None
+        if name in SETS:
+            return self.answer_set(SETS[name], unit) if len(unit) == total(SETS[name]) else None
+        return b'errc', NO_ORDER, (1, None)
+
+    def answer_set(self, name, unit):
         if crc(unit[4:-2]) != unit[-2:]:
-            return b'errd', 0, (2, None)
-        numbers = numbers_in(block, unit[4:])
-        bad = first_bad(block, numbers)
+            return b'errd', NO_ORDER, (2, None)
+        numbers = numbers_in(name, unit[4:])
+        bad = first_bad(name, numbers)
         if bad:
-            return b'errv', 0, (4, (number_of(block), bad))
-        return unit[:4], 0, (block, numbers)
+            return b'errv', NO_ORDER, (4, (number_of(name), bad))
+        if name in ('move', 'movr'):  # the order has the block's number
+            return unit[:4], (number_of(name), *numbers), None
+        return unit[:4], NO_ORDER, ('pos', self.moved(*numbers)) if name == 'spos' else (name, numbers)
+
+    def moved(self, steps, microsteps, count, flags):
+        """The position that an spos leaves."""
+        stood = self.kept['pos']
+        return (stood[:2] if flags & 1 else [steps, microsteps]) + (stood[2:] if flags & 2 else [count])
 
     def keep(self, change):
         kind, what = change
-        if kind in BLOCKS:
-            self.settings[kind] = what
+        if kind in KEPT:
+            self.kept[kind] = what
         else:
             self.flags, self.refused = self.flags | kind, what or self.refused
 
     def call(self, piece, stamp, room):
         """Number, taken, order and reply."""
         if len(piece) > PIECE:
-            return 1, 0, 0, b''
+            return 1, 0, NO_ORDER, b''
         if room < FRAME:
-            return 2, 0, 0, b''
+            return 2, 0, NO_ORDER, b''
         if not self.is_sound():
-            return 3, 0, 0, b''
+            return 3, 0, NO_ORDER, b''
         taken, reply = 0, b''
         for byte in piece:
             late = (stamp - self.last) % 2**32 > 400
@@ -158,11 +187,11 @@ class Board:
                 reply += said[0]
                 if said[2]:
                     self.keep(said[2])
-                if said[1]:
+                if said[1] != NO_ORDER:
                     return 0, taken, said[1], reply
-        return 0, taken, 0, reply
+        return 0, taken, NO_ORDER, reply
 
-    def report(self, now):
+    def report_time(self, now):
         """The number of a report of the time."""
         if not self.is_sound():
             return 3
@@ -170,8 +199,17 @@ class Board:
             self.hold(b'')
         return 0
 
+    def report_position(self, position):
+        """The number of a report of the drive's position: steps, microsteps, count."""
+        if not self.is_sound():
+            return 3
+        if first_bad('pos', position):
+            return 5
+        self.kept['pos'] = position
+        return 0
 
-# ---- the host
+
+# ---- the host: "later commands stay outside" (02, P1)
 
 def written(data, bad, buffer):
     """Number, length and buffer of a writer that has this frame to write, the first field out of range known."""

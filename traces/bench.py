@@ -4,7 +4,7 @@ import struct
 import sys
 
 sys.path.insert(0, os.path.join(os.path.dirname(os.path.abspath(__file__)), '..', 'cases'))
-from model import Board
+from model import Board, shown
 
 RECORD, ROOM = 250, 250  # a record's most bytes; the reply room
 
@@ -23,7 +23,7 @@ def bench(trace):
         first = True
         while first or piece:
             number, taken, order, reply = board.call(piece, stamp, ROOM)
-            lines.append(f'{stamp} {taken} {order} {reply.hex() or "-"}')
+            lines.append(f'{stamp} {taken} {shown(order)} {reply.hex() or "-"}')
             piece, first = piece[taken:], False
     return '\n'.join(lines + [f'flags {board.flags} unfinished {board.count}']) + '\n'
 

@@ -65,6 +65,21 @@ def night():
         (90000, damaged), (90401, b'stop'), (90500, b'gpwr')])
 
 
+def moves():
+    """02, P5: positions set, cleared and got; moves at their ends, refused, and in the middle of a record, whose rest gets a call of its own."""
+    least, largest = frame('move', [-2147483648, -255]), frame('movr', [2147483647, 255])
+    yield from [b'gpos', frame('spos', [-2147483648, -255, -2**63, 0], reserved=255), b'gpos', b'zero', b'gpos']
+    yield from [frame('spos', [2147483647, 255, 2**63 - 1, 0]), b'gpos']
+    yield from [frame('spos', [flags, -flags, -5000000000 - flags, flags]) + b'gpos' for flags in range(5)]
+    yield from [least, largest, frame('move', [0, 0]), frame('movr', [-1, 1], reserved=255), frame('move', [2147483647, 255]), b'gpos']
+    yield from [frame(name, [5, microsteps]) for name in ('move', 'movr') for microsteps in (-256, -255, 255, 256)]
+    yield from [frame('spos', [5, microsteps, 6, 3]) for microsteps in (-256, -255, 255, 256)]
+    # 004's worked frame, whose CRC is of other bytes, and with the CRC of its own
+    yield from [b'movr\xc8' + bytes(11) + last for last in (b'\x53\xc7', b'\x86\x9c')]
+    yield from [b'gpos' + least + b'zero' + largest + b'gposstop' + least + b'gp', b'os', frame('move', [1, 2], wrong=1)]
+    yield from [least[:9], least[9:], largest[:9]]
+
+
 WAITS = [(4294967200, b'st'), (304, b'op'), (4294967200, b'st'), (305, b'op'), (706, b'st'), (1106, b'op'), (2000, b'st'), (2401, b'\0'),
          (3000, b'st'), (3300, b''), (3401, b'op'), (3400, b'xx')]
 BEFORE, NEXT = record(1000, b'stop\0'), record(2000, b'left')
@@ -74,6 +89,7 @@ TRACES = {
     'example': record(1000, b'stopxxxx\0') + record(2000, b'le') + record(2401, b'ft'),
     'units': joined(1000, 500, units()),
     'night': night(),
+    'moves': joined(1000, 400, moves()),
     'waits': b''.join(record(*r) for r in WAITS),
     'pieces': joined(1000, 400, [SET[:1], SET[1:3], SET[3:5], b'', SET[5:24], SET[24:] + b'gb', b'rk']),
     'room': joined(1000, 500, [b'gpid' * 6, b'\0' * 250, b'gpid' * 5 + b'xxxxyyyy\0\0\0', b'gpid' * 60 + b'stop']),

@@ -1,9 +1,10 @@
 //! The proved receiver, libboard.a, behind safe types.
 //!
-//! A `Board` comes from `fresh` and changes by `receive` and `report_clock` only (tests aside), so it is always sound. What a call took
-//! and wrote comes as slices: the rest that is to be offered again, and the reply.
+//! A `Board` comes from `fresh` and changes by `receive`, `report_clock` and `report_position` only (tests aside), so it is always sound.
+//! What a call took and wrote comes as slices: the rest that is to be offered again, and the reply.
 
 use crate::blocks::{Brk, Eds, Eng, Hom, Mov, Pid, Pwr};
+use crate::position::{Microsteps, Position, Steps, Travel};
 
 /// The longest frame of a request, which is also the longest answer.
 pub const FRAME: usize = 48;
@@ -39,6 +40,7 @@ pub struct Notes {
 pub struct Memory {
     pub settings: Settings,
     pub notes: Notes,
+    pub position: Position,
 }
 
 /// What a board consists of. Every value can be handed to the library: it answers `Unsound` to those that no board reaches.
@@ -56,6 +58,8 @@ struct Answer {
     board: Parts,
     taken: usize,
     written: usize,
+    steps: Steps,
+    microsteps: Microsteps,
     number: u8,
     order: u8,
 }
@@ -71,25 +75,29 @@ const _: () = assert!(usize::BITS == 64);
 
 extern "C" {
     // A library whose structs are laid out in another way has another number in these names, and does not link.
-    #[link_name = "rivertosku_fresh_1"]
+    #[link_name = "rivertosku_fresh_2"]
     fn rivertosku_fresh() -> Parts;
-    #[link_name = "rivertosku_judge_1"]
+    #[link_name = "rivertosku_judge_2"]
     fn rivertosku_judge(board: Parts) -> u8;
-    #[link_name = "rivertosku_same_1"]
+    #[link_name = "rivertosku_same_2"]
     fn rivertosku_same(a: Parts, b: Parts) -> u8;
-    #[link_name = "rivertosku_receive_1"]
+    #[link_name = "rivertosku_receive_2"]
     fn rivertosku_receive(board: Parts, piece: *const u8, piece_len: usize, stamp: u32, reply: *mut u8, reply_len: usize) -> Answer;
-    #[link_name = "rivertosku_report_clock_1"]
+    #[link_name = "rivertosku_report_clock_2"]
     fn rivertosku_report_clock(board: Parts, now: u32) -> Report;
+    #[link_name = "rivertosku_report_position_2"]
+    fn rivertosku_report_position(board: Parts, position: Position) -> Report;
 }
 
-/// 01's number of a call's answer. A report of the time answers `Accepted` or `Unsound`.
+/// 01's number of a call's answer. A report of the time answers `Accepted` or `Unsound`, one of the position `MicrostepsOutOfRange` too,
+/// which no call answers.
 #[derive(Clone, Copy, PartialEq, Eq, Debug)]
 pub enum Number {
     Accepted = 0,
     PieceTooLong = 1,
     RoomTooSmall = 2,
     Unsound = 3,
+    MicrostepsOutOfRange = 5,
 }
 
 impl Number {
@@ -100,26 +108,47 @@ impl Number {
             1 => Number::PieceTooLong,
             2 => Number::RoomTooSmall,
             3 => Number::Unsound,
+            5 => Number::MicrostepsOutOfRange,
             n => panic!("the library answered number {n}"),
         }
     }
 }
 
+/// An order; a move and a movr carry where to and how far.
 #[derive(Clone, Copy, PartialEq, Eq, Debug)]
 pub enum Order {
-    Stop = 1,
-    Sstp = 2,
-    Pwof = 3,
-    Left = 4,
-    Rigt = 5,
-    Home = 6,
-    Loft = 7,
+    Stop,
+    Sstp,
+    Pwof,
+    Left,
+    Rigt,
+    Home,
+    Loft,
+    Move(Travel),
+    Movr(Travel),
 }
 
 impl Order {
-    /// The order that has this number of 01, if one has.
-    pub fn numbered(number: u8) -> Option<Order> {
+    /// The sheets' number of the order.
+    pub fn number(self) -> u8 {
+        match self {
+            Order::Stop => 1,
+            Order::Sstp => 2,
+            Order::Pwof => 3,
+            Order::Left => 4,
+            Order::Rigt => 5,
+            Order::Home => 6,
+            Order::Loft => 7,
+            Order::Move(_) => 8,
+            Order::Movr(_) => 9,
+        }
+    }
+
+    /// The order that the library answered, if one, with its travel, which is zeros where the order carries none.
+    fn answered(number: u8, travel: Travel) -> Option<Order> {
+        assert!(number >= 8 || travel == Travel::default(), "the library answered order {number} with {travel:?}");
         Some(match number {
+            0 => return None,
             1 => Order::Stop,
             2 => Order::Sstp,
             3 => Order::Pwof,
@@ -127,7 +156,9 @@ impl Order {
             5 => Order::Rigt,
             6 => Order::Home,
             7 => Order::Loft,
-            _ => return None,
+            8 => Order::Move(travel),
+            9 => Order::Movr(travel),
+            n => panic!("the library answered order {n}"),
         })
     }
 }
@@ -162,8 +193,8 @@ impl Board {
         Number::answered(unsafe { rivertosku_judge(self.0) })
     }
 
-    /// Whether two boards are the same: stamp, notes, unfinished bytes, and each block as a get sends it, so minus zero is not zero. Spare
-    /// bytes play no part, which `==` compares too. `None` where one of the two is unsound.
+    /// Whether two boards are the same: stamp, notes, position, unfinished bytes, and each block as a get sends it, so minus zero is not
+    /// zero. Spare bytes play no part, which `==` compares too. `None` where one of the two is unsound.
     pub fn same(&self, other: &Board) -> Option<bool> {
         // SAFETY: no memory is handed over; any board values are allowed.
         match unsafe { rivertosku_same(self.0, other.0) } {
@@ -182,10 +213,7 @@ impl Board {
         Call {
             number: Number::answered(answer.number),
             taken: answer.taken,
-            order: match answer.order {
-                0 => None,
-                n => Some(Order::numbered(n).unwrap_or_else(|| panic!("the library answered order {n}"))),
-            },
+            order: Order::answered(answer.order, Travel { steps: answer.steps, microsteps: answer.microsteps }),
             rest: &piece[answer.taken..],
             reply: &reply[..answer.written],
         }
@@ -205,8 +233,22 @@ impl Board {
         Number::answered(report.number)
     }
 
+    /// The position of the drive. `MicrostepsOutOfRange` where its microsteps lie outside -255..255, and nothing changes; else it is the
+    /// board's, which gpos sends, and nothing else changes: an unfinished unit stays, and the last stamp.
+    pub fn report_position(&mut self, position: Position) -> Number {
+        // SAFETY: no memory is handed over; any board value is allowed.
+        let report = unsafe { rivertosku_report_position(self.0, position) };
+        self.0 = report.board;
+        Number::answered(report.number)
+    }
+
     pub fn settings(&self) -> &Settings {
         &self.0.memory.settings
+    }
+
+    /// As the drive, spos and zero left it.
+    pub fn position(&self) -> Position {
+        self.0.memory.position
     }
 
     /// Bits 1 (command error), 2 (data error), 4 (value error).
@@ -246,6 +288,7 @@ impl Board {
 #[cfg(test)]
 mod tests {
     use super::*;
+    use crate::position::Count;
     use std::mem::size_of;
 
     /// The sizes that c/rivertosku.h asserts. Shown by `cargo test sizes -- --nocapture`.
@@ -255,8 +298,8 @@ mod tests {
             [size_of::<Settings>(), size_of::<Notes>(), size_of::<Memory>(), size_of::<Parts>(), size_of::<Answer>(), size_of::<Report>()];
         println!("settings notes memory board answer report: {sizes:?}");
         // The held bytes fill whole words; count and stamp follow.
-        let board = 152 + FRAME.next_multiple_of(8) + 16;
-        assert_eq!(sizes, [128, 24, 152, board, 24 + board, 8 + board]);
+        let board = 168 + FRAME.next_multiple_of(8) + 16;
+        assert_eq!(sizes, [128, 24, 168, board, 24 + board, 8 + board]);
     }
 
     #[test]
@@ -274,7 +317,7 @@ mod tests {
         // A spare byte plays no part; the bytes before it do.
         let spare = changed(&|parts| parts.held[4] = 1);
         assert!(spare != board && spare.same(&board) == Some(true));
-        let others: [&dyn Fn(&mut Parts); 14] = [
+        let others: [&dyn Fn(&mut Parts); 17] = [
             &|parts| parts.memory.settings.mov.u_antiplay_speed = 1,
             &|parts| parts.memory.settings.eng.antiplay = -1,
             &|parts| parts.memory.settings.pwr.power_flags = 1,
@@ -285,6 +328,9 @@ mod tests {
             &|parts| parts.memory.notes.flags = 1,
             &|parts| parts.memory.notes.block = 1,
             &|parts| parts.memory.notes.field = 1 << 32,
+            &|parts| parts.memory.position.steps = Steps(i32::MIN),
+            &|parts| parts.memory.position.microsteps = Microsteps(-255),
+            &|parts| parts.memory.position.count = Count(1 << 32),
             &|parts| parts.count = 5,
             &|parts| (parts.held[0], parts.count) = (b't', 3),
             &|parts| parts.stamp = 1000 + (1 << 31),
@@ -295,10 +341,13 @@ mod tests {
             let said = [other.same(&board), board.same(&other), other.same(&other)];
             assert_eq!(said, [Some(false), Some(false), Some(true)], "{other:?}");
         }
-        // Another name that is no set's, flags over 7, counts past a unit and past the bytes held: unsound, and so is the comparison.
-        let unsound: [&dyn Fn(&mut Parts); 4] = [
+        // Another name that is no set's, flags over 7, microsteps past their range, counts past a unit and past the bytes held: unsound,
+        // and so is the comparison.
+        let unsound: [&dyn Fn(&mut Parts); 6] = [
             &|parts| parts.held[3] = b's',
             &|parts| parts.memory.notes.flags = 8,
+            &|parts| parts.memory.position.microsteps = Microsteps(-256),
+            &|parts| parts.memory.position.microsteps = Microsteps(256),
             &|parts| parts.count = FRAME,
             &|parts| parts.count = usize::MAX,
         ];
@@ -333,6 +382,52 @@ mod tests {
         assert_eq!((call.order, call.reply, call.rest), (None, &b"errc\0"[..], &b""[..]));
         assert_eq!((board.flags(), board.unfinished(), board.stamp()), (1, &b"le"[..], 1000));
         assert_eq!(board.last_refused(), None);
+    }
+
+    /// 004's worked movr, 200 steps, with the CRC that it has there and with the right one; then a move with bytes behind it.
+    #[test]
+    fn travels() {
+        let mut board = Board::fresh();
+        let mut room = [0; ROOM];
+        let mut frame = *b"movr\xC8\0\0\0\0\0\0\0\0\0\0\0\x53\xC7";
+        let call = board.receive(&frame, 1000, &mut room);
+        assert_eq!((call.order, call.reply), (None, &b"errd"[..]));
+        frame[16..].copy_from_slice(&[0x86, 0x9C]);
+        let call = board.receive(&frame, 1000, &mut room);
+        assert_eq!((call.order, call.reply), (Some(Order::Movr(Travel { steps: Steps(200), ..Travel::default() })), &b"movr"[..]));
+        // -2147483648 steps, -255 microsteps.
+        let piece = *b"move\0\0\0\x80\x01\xFF\0\0\0\0\0\0\xCB\x07zero";
+        let call = board.receive(&piece, 1000, &mut room);
+        let travel = Travel { steps: Steps(i32::MIN), microsteps: Microsteps(-255) };
+        assert_eq!((call.order, call.reply, call.rest), (Some(Order::Move(travel)), &b"move"[..], &b"zero"[..]));
+        let call = board.receive(call.rest, 1000, &mut room);
+        assert_eq!((call.order, call.reply, board.position()), (None, &b"zero"[..], Position::default()));
+    }
+
+    /// A report inside gpos, which sends what is reported last, and reports that are refused.
+    #[test]
+    fn positions() {
+        let at = |steps, microsteps, count| Position { steps: Steps(steps), microsteps: Microsteps(microsteps), count: Count(count) };
+        let mut board = Board::fresh();
+        let mut room = [0; ROOM];
+        assert_eq!(board.position(), at(0, 0, 0));
+        let _ = board.receive(b"gp", 1000, &mut room);
+        assert_eq!(board.report_position(at(1, 255, 2)), Number::Accepted);
+        assert_eq!(board.report_position(at(-2, -255, i64::MIN)), Number::Accepted);
+        let before = board.clone();
+        for microsteps in [-256, 256, i16::MIN, i16::MAX] {
+            assert_eq!((board.report_position(at(0, microsteps, 0)), &board), (Number::MicrostepsOutOfRange, &before));
+        }
+        assert_eq!((board.unfinished(), board.stamp(), board.position()), (&b"gp"[..], 1000, at(-2, -255, i64::MIN)));
+        let call = board.receive(b"oszero", 1400, &mut room);
+        assert_eq!(call.reply[..18], *b"gpos\xFE\xFF\xFF\xFF\x01\xFF\0\0\0\0\0\0\0\x80");
+        assert_eq!((call.reply[18..24].to_vec(), call.reply[26..].to_vec(), call.rest), (vec![0; 6], b"zero".to_vec(), &b""[..]));
+        assert_eq!(board.position(), at(0, 0, i64::MIN));
+        let unsound = Board::from_parts(Parts { count: FRAME + 1, ..*board.parts() });
+        for microsteps in [0, 256] {
+            let mut board = unsound.clone();
+            assert_eq!((board.report_position(at(1, microsteps, 0)), board), (Number::Unsound, unsound.clone()));
+        }
     }
 
     /// Half a command, reports of the time, and the rest after 2^32 + 100 ms, which its stamp shows as 100.

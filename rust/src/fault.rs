@@ -1,6 +1,6 @@
 //! The wrong receivers and hosts that a comparison has to catch. Each is the second receiver or host with one fault.
 
-use crate::table::{self, row, DATA};
+use crate::table::{self, row, DATA, MICRO, POSITION};
 
 macro_rules! faults {
     ($($case:ident = $name:literal,)*) => {
@@ -61,6 +61,7 @@ faults! {
     FlagsOver7 = "unsound-flags",
     FieldOutOfRange = "unsound-field",
     UnknownBit = "unsound-unknown-bit",
+    PositionOutOfRange = "unsound-position",
     // A report of the time
     ReportSetsStamp = "report-sets-stamp",
     Report400TooLong = "report-400-too-long",
@@ -70,6 +71,37 @@ faults! {
     ReportFlags = "report-flags",
     ReportRefusesSound = "report-refuses-sound",
     ReportAcceptsUnsound = "report-accepts-unsound",
+    // Travel: move and movr
+    TravelExchanged = "travel-exchanged",
+    TravelLeftOut = "travel-left-out",
+    MoveStored = "move-stored",
+    OrderNineForEight = "order-9-for-8",
+    MovrRefusedAsMove = "movr-refused-as-move",
+    // The position: fresh, spos, gpos and zero
+    FreshPosition = "fresh-position",
+    Microsteps256Pass = "microsteps-256-pass",
+    Microsteps255Refused = "microsteps-255-refused",
+    LeftMicrostepsUntested = "left-microsteps-untested",
+    Flag1LeavesCount = "flag-1-leaves-count",
+    Flag2Ignored = "flag-2-ignored",
+    Flag4Passes = "flag-4-passes",
+    GposSendsWhatWasSet = "gpos-sends-what-was-set",
+    GposExchanged = "gpos-exchanged",
+    ZeroClearsCount = "zero-clears-count",
+    ZeroKeepsMicrosteps = "zero-keeps-microsteps",
+    ZeroNotEchoed = "zero-not-echoed",
+    ZeroGivesOrder = "zero-gives-order",
+    ZeroStopsCall = "zero-stops-call",
+    // A report of the position
+    PositionReportDrops = "position-report-drops",
+    PositionReportSetsStamp = "position-report-sets-stamp",
+    PositionReportAccepts256 = "position-report-accepts-256",
+    PositionReportRefuses255 = "position-report-refuses-255",
+    PositionReportChangesNothing = "position-report-changes-nothing",
+    PositionReportLeavesCount = "position-report-leaves-count",
+    PositionReportStoresRefused = "position-report-stores-refused",
+    PositionReportRangeFirst = "position-report-range-first",
+    PositionReportAcceptsUnsound = "position-report-accepts-unsound",
     // A host's writer
     HostRangeSkipped = "host-range-skipped",
     HostRangeOneOff = "host-range-one-off",
@@ -90,18 +122,27 @@ faults! {
 }
 
 impl Fault {
-    /// The number of the field for which a receiver with this fault refuses a data section, 0 if it takes it.
+    /// The number of the field for which a receiver with this fault refuses a set's data section, 0 if it takes it.
     #[inline(always)]
-    pub fn bad_field(self, block: usize, data: &[u8; DATA]) -> usize {
+    pub fn bad_field(self, set: usize, data: &[u8; DATA]) -> usize {
         match self {
-            Fault::None => table::bad_field(block, data),
-            _ => self.wrong_field(block, data),
+            Fault::None => table::bad_field(set, data),
+            _ => self.wrong_field(set, data),
         }
     }
 
-    fn wrong_field(self, block: usize, data: &[u8]) -> usize {
-        let mut bad = row(block).bad_fields(data);
-        match (self, block) {
+    /// Whether a receiver with this fault finds a report's microsteps out of range.
+    pub fn reported_wide(self, bytes: &[u8]) -> bool {
+        match self {
+            Fault::PositionReportAccepts256 => !MICRO.takes(bytes) && !at_edge(bytes, 256),
+            Fault::PositionReportRefuses255 => !MICRO.takes(bytes) || at_edge(bytes, 255),
+            _ => !MICRO.takes(bytes),
+        }
+    }
+
+    fn wrong_field(self, set: usize, data: &[u8]) -> usize {
+        let mut bad = row(set).bad_fields(data);
+        match (self, set) {
             (Fault::LastBadField, _) => bad.reverse(),
             // Kpf, Kif, Kdf
             (Fault::InfinityPasses, 7) => bad.clear(),
@@ -113,8 +154,19 @@ impl Fault {
             (Fault::UnknownBitMisnumbered, 4) => bad.iter_mut().for_each(|field| *field = if *field == 2 { 1 } else { *field }),
             // EngineFlags
             (Fault::UnknownBitLast, 2) => bad.sort_by_key(|&field| field == 5),
+            // Microsteps
+            (Fault::Microsteps256Pass, 8..) if at_edge(&data[4..6], 256) => bad.retain(|&field| field != 2),
+            (Fault::Microsteps255Refused, 8..) if at_edge(&data[4..6], 255) => bad.insert(0, 2),
+            (Fault::LeftMicrostepsUntested, 10) if data[POSITION] & 1 != 0 => bad.retain(|&field| field != 2),
+            // PosFlags
+            (Fault::Flag4Passes, 10) if data[POSITION] & !0x07 == 0 => bad.retain(|&field| field != 4),
             _ => {}
         }
         bad.first().copied().unwrap_or(0)
     }
+}
+
+/// Whether these microsteps lie so far from 0, to either side.
+fn at_edge(bytes: &[u8], edge: i16) -> bool {
+    [edge.to_le_bytes(), (-edge).to_le_bytes()].iter().any(|at| at == bytes)
 }

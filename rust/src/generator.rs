@@ -1,7 +1,7 @@
 //! Random frames, good and nasty, from a seeded generator.
 
 use crate::second::crc;
-use crate::table::{row, Field, BLOCKS, ORDERS};
+use crate::table::{row, Field, BLOCKS, GPOS, ORDERS, SETS, ZERO};
 
 /// The bench's reply room.
 pub const BENCH_ROOM: usize = 250;
@@ -104,7 +104,7 @@ fn bad(random: &mut Random, field: Field) -> Option<Vec<u8>> {
     }
 }
 
-/// A data section of a block: fields in range, then up to `wrong` of them out of it, and the reserved bytes.
+/// A data section of a set: fields in range, then up to `wrong` of them out of it, and the reserved bytes.
 pub fn data(random: &mut Random, number: usize, wrong: usize) -> Vec<u8> {
     let row = row(number);
     let mut fields: Vec<_> = row.fields.iter().map(|&f| good(random, f)).collect();
@@ -137,29 +137,42 @@ pub fn zero_data(random: &mut Random, number: usize) -> Vec<u8> {
     data
 }
 
+/// Which sets or names a frame is to be drawn from.
+pub type Draw<T> = fn(&mut Random) -> T;
+
 /// The number of any block.
 pub fn any_block(random: &mut Random) -> usize {
     random.below(BLOCKS) + 1
 }
 
-pub fn good_set(random: &mut Random) -> Vec<u8> {
-    let number = any_block(random);
+/// The number of move, movr or spos.
+pub fn other_set(random: &mut Random) -> usize {
+    random.below(SETS - BLOCKS) + BLOCKS + 1
+}
+
+/// The number of any set.
+pub fn any_set(random: &mut Random) -> usize {
+    random.below(SETS) + 1
+}
+
+pub fn good_set(random: &mut Random, of: Draw<usize>) -> Vec<u8> {
+    let number = of(random);
     let data = data(random, number, 0);
-    row(number).framed(b's', &data)
+    row(number).set_frame(&data)
 }
 
 /// A set whose fields are out of range: one, or more of them.
-pub fn bad_set(random: &mut Random) -> Vec<u8> {
-    let number = any_block(random);
+pub fn bad_set(random: &mut Random, of: Draw<usize>) -> Vec<u8> {
+    let number = of(random);
     let wrong = random.pick(&[1, 1, 2, 3]);
     let data = data(random, number, wrong);
-    row(number).framed(b's', &data)
+    row(number).set_frame(&data)
 }
 
-pub fn zero_set(random: &mut Random) -> Vec<u8> {
-    let number = any_block(random);
+pub fn zero_set(random: &mut Random, of: Draw<usize>) -> Vec<u8> {
+    let number = of(random);
     let data = zero_data(random, number);
-    row(number).framed(b's', &data)
+    row(number).set_frame(&data)
 }
 
 /// A frame with its CRC made wrong: a bit of its data or CRC, its bytes exchanged, or taken over the identifier too.
@@ -177,31 +190,45 @@ fn damaged(random: &mut Random, mut frame: Vec<u8>) -> Vec<u8> {
     frame
 }
 
-pub fn damaged_set(random: &mut Random) -> Vec<u8> {
-    let frame = if random.percent(30) { bad_set(random) } else { good_set(random) };
+pub fn damaged_set(random: &mut Random, of: Draw<usize>) -> Vec<u8> {
+    let frame = if random.percent(30) { bad_set(random, of) } else { good_set(random, of) };
     damaged(random, frame)
 }
 
 pub fn get(random: &mut Random) -> Vec<u8> {
-    row(any_block(random)).named(b'g')
+    row(any_block(random)).get()
 }
 
 pub fn order(random: &mut Random) -> Vec<u8> {
     random.pick(&ORDERS).to_vec()
 }
 
-/// Any name that is known.
+/// gpos or zero.
+pub fn gpos_or_zero(random: &mut Random) -> Vec<u8> {
+    random.pick(&[GPOS, ZERO]).to_vec()
+}
+
+/// Any name of a block or an order.
 pub fn name(random: &mut Random) -> Vec<u8> {
     match random.below(3) {
         0 => get(random),
         1 => order(random),
-        _ => row(any_block(random)).named(b's'),
+        _ => row(any_block(random)).set.to_vec(),
+    }
+}
+
+/// Any name that is known.
+pub fn any_name(random: &mut Random) -> Vec<u8> {
+    match random.below(4) {
+        0 => gpos_or_zero(random),
+        1 => row(other_set(random)).set.to_vec(),
+        _ => name(random),
     }
 }
 
 /// A name one letter off, or four bytes of any kind.
-pub fn unknown(random: &mut Random) -> Vec<u8> {
-    let mut name = name(random);
+pub fn unknown(random: &mut Random, of: Draw<Vec<u8>>) -> Vec<u8> {
+    let mut name = of(random);
     let at = random.below(4);
     match random.below(8) {
         0 => name[at] = name[at].wrapping_add(1),
@@ -221,17 +248,17 @@ fn data_answer(random: &mut Random) -> Vec<u8> {
     let number = any_block(random);
     let wrong = random.pick(&[0, 0, 1, 2, 3]);
     let data = data(random, number, wrong);
-    row(number).framed(b'g', &data)
+    row(number).get_frame(&data)
 }
 
 /// What may come to a host: answers, damaged ones, and names that no answer has.
 pub fn answer(random: &mut Random) -> Vec<u8> {
     match random.below(10) {
         0 => vec![0],
-        1 | 2 => name(random),
+        1 | 2 => any_name(random),
         3 => [b"err", &[random.pick(b"cdv")][..]].concat(),
         4 => [b"err", &[random.word() as u8][..]].concat(),
-        5 => unknown(random),
+        5 => unknown(random, any_name),
         6 => {
             let frame = data_answer(random);
             damaged(random, frame)

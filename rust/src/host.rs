@@ -1,7 +1,6 @@
 //! The optimiser's end of the link, liboptimiser.a, behind safe types: a request is written as its frame, the board's answers are read.
 
 use crate::blocks::{Brk, Eds, Eng, Hom, Mov, Pid, Pwr};
-use crate::board::Order;
 pub use crate::board::FRAME;
 
 #[derive(Clone, Copy, PartialEq, Eq, Debug)]
@@ -26,6 +25,34 @@ impl Block {
             5 => Block::Hom,
             6 => Block::Brk,
             7 => Block::Pid,
+            _ => return None,
+        })
+    }
+}
+
+/// The orders of 01: "later commands stay outside" of the host.
+#[derive(Clone, Copy, PartialEq, Eq, Debug)]
+pub enum Order {
+    Stop = 1,
+    Sstp = 2,
+    Pwof = 3,
+    Left = 4,
+    Rigt = 5,
+    Home = 6,
+    Loft = 7,
+}
+
+impl Order {
+    /// The order that has this number of 01, if one has.
+    pub fn numbered(number: u8) -> Option<Order> {
+        Some(match number {
+            1 => Order::Stop,
+            2 => Order::Sstp,
+            3 => Order::Pwof,
+            4 => Order::Left,
+            5 => Order::Rigt,
+            6 => Order::Home,
+            7 => Order::Loft,
             _ => return None,
         })
     }
@@ -321,7 +348,7 @@ mod tests {
 
     #[test]
     fn answers() {
-        let cases: [(&[u8], _); 9] = [
+        let cases: [(&[u8], _); 11] = [
             (b"\0", Ok((Answer::Zero, 1))),
             (b"\0mov", Ok((Answer::Zero, 1))),
             (b"smovs", Ok((Answer::SetEcho(Block::Mov), 4))),
@@ -331,6 +358,8 @@ mod tests {
             (b"errv", Ok((Answer::Errv, 4))),
             (b"", Err(ReadRefusal::NoName)),
             (b"gmo\0", Err(ReadRefusal::NoAnswer)),
+            (b"move", Err(ReadRefusal::NoAnswer)),
+            (b"zero", Err(ReadRefusal::NoAnswer)),
         ];
         for (bytes, said) in cases {
             assert_eq!(read(bytes), said);

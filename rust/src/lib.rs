@@ -5,6 +5,7 @@ pub mod board;
 pub mod fault;
 pub mod generator;
 pub mod host;
+pub mod position;
 pub mod same;
 pub mod second;
 pub mod second_host;

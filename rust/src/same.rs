@@ -1,12 +1,13 @@
 //! Where the library meets the second receiver and host: the library's records and the second's bytes, each turned into the other, and
 //! what differs.
 
-use crate::board::{Board, Order, Parts, Settings};
+use crate::board::{Board, Parts, Settings};
 use crate::fault::Fault;
-use crate::host::{self, Answer, Block, Blocks, Fields, ReadRefusal, Request, WriteRefusal, FRAME};
+use crate::host::{self, Answer, Block, Blocks, Fields, Order, ReadRefusal, Request, WriteRefusal, FRAME};
+use crate::position::{Position, Travel};
 use crate::second::Second;
 use crate::second_host;
-use crate::table::{BLOCKS, DATA};
+use crate::table::{BLOCKS, DATA, POSITION, TRAVEL};
 
 // The table of the second ones is to have the library's longest frame.
 const _: () = assert!(FRAME == crate::table::FRAME);
@@ -34,7 +35,7 @@ macro_rules! fields {
     };
 }
 
-fields! { u8 u16 u32 i16 i32 f32 }
+fields! { u8 u16 u32 i16 i32 i64 f32 }
 
 macro_rules! each {
     ($block:ident: $($field:ident)*) => { vec![$(&mut $block.$field),*] };
@@ -67,15 +68,28 @@ fn settings_of(blocks: &Blocks) -> Settings {
     Settings { mov, eng, pwr, eds, hom, brk, pid }
 }
 
-/// A block's data section, zeros behind it.
-fn data_of(settings: &Settings, block: usize) -> [u8; DATA] {
-    let mut bytes = Vec::with_capacity(DATA);
-    for field in fields(&mut blocks_of(settings), block) {
+/// These fields one behind the other, zeros behind them.
+fn bytes_of<const N: usize>(fields: &[&mut dyn Field]) -> [u8; N] {
+    let mut bytes = Vec::with_capacity(N);
+    for field in fields {
         field.write(&mut bytes);
     }
-    let mut data = [0; DATA];
-    data[..bytes.len()].copy_from_slice(&bytes);
-    data
+    let mut filled = [0; N];
+    filled[..bytes.len()].copy_from_slice(&bytes);
+    filled
+}
+
+/// A block's data section, zeros behind it.
+fn data_of(settings: &Settings, block: usize) -> [u8; DATA] {
+    bytes_of(&fields(&mut blocks_of(settings), block))
+}
+
+pub fn travel_bytes(mut travel: Travel) -> [u8; TRAVEL] {
+    bytes_of(&[&mut travel.steps.0, &mut travel.microsteps.0])
+}
+
+pub fn position_bytes(mut position: Position) -> [u8; POSITION] {
+    bytes_of(&[&mut position.steps.0, &mut position.microsteps.0, &mut position.count.0])
 }
 
 /// Puts a data section among the blocks, in range or not.
@@ -95,8 +109,11 @@ pub fn put_data(settings: &mut Settings, block: usize, data: &[u8]) {
 /// The second receiver in a board's state.
 pub fn second_of(parts: &Parts) -> Second {
     let notes = parts.memory.notes;
+    let position = position_bytes(parts.memory.position);
     Second {
         data: std::array::from_fn(|i| data_of(&parts.memory.settings, i + 1)),
+        position,
+        last_set: position,
         flags: notes.flags,
         refused: (notes.block, notes.field),
         unit: parts.held,
@@ -113,6 +130,10 @@ pub fn difference(board: &Board, second: &Second) -> Option<String> {
         if a != b {
             return Some(format!("block {block}: library {a:02x?}, second {b:02x?}"));
         }
+    }
+    let position = position_bytes(board.position());
+    if position != second.position {
+        return Some(format!("position: library {position:02x?}, second {:02x?}", second.position));
     }
     if board.flags() != second.flags {
         return Some(format!("flags: library {}, second {}", board.flags(), second.flags));

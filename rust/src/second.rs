@@ -1,9 +1,9 @@
 //! A second receiver, written from sheets 01 and 02, with no code or table of the library. It goes byte by byte and keeps each block as
-//! the data section that a get sends.
+//! the data section that a get sends, and the position as gpos sends it.
 //! It can be broken on purpose (`Fault`), to see that a comparison notices.
 
 use crate::fault::Fault;
-use crate::table::{self, row, BLOCKS, DATA, FRAME, TOTAL};
+use crate::table::{self, row, BLOCKS, DATA, FRAME, GPOS, GPOS_TOTAL, MICRO, POSITION, TOTAL, TRAVEL, ZERO};
 
 /// 01's longest piece, and the longest wait inside a unit.
 const PIECE: usize = 250;
@@ -13,6 +13,10 @@ const WAIT: u32 = 400;
 pub struct Second {
     /// Each block's data section, reserved bytes zero, zeros behind it.
     pub data: [[u8; DATA]; BLOCKS],
+    /// Steps, microsteps and encoder count.
+    pub position: [u8; POSITION],
+    /// The position that spos set last: no part of the state, but what a wrong gpos sends.
+    pub last_set: [u8; POSITION],
     pub flags: usize,
     /// Block and field last refused.
     pub refused: (usize, usize),
@@ -26,6 +30,8 @@ pub struct Second {
 pub struct Outcome {
     pub number: u8,
     pub order: u8,
+    /// Steps and microsteps of order 8 or 9, else zeros.
+    pub travel: [u8; TRAVEL],
     pub taken: usize,
     pub written: usize,
     /// How many units this call finished (a count for reports, no part of the answer).
@@ -36,18 +42,27 @@ enum Meaning {
     Set(usize),
     Get(usize),
     Order(u8),
+    /// gpos
+    Position,
+    /// zero
+    Clear,
     Unknown,
 }
 
 fn meaning(name: [u8; 4]) -> Meaning {
-    match (name[0], table::block_named(&name[1..])) {
-        (b's', Some(block)) => return Meaning::Set(block),
-        (b'g', Some(block)) => return Meaning::Get(block),
-        _ => {}
+    if let Some(set) = table::set_named(&name) {
+        return Meaning::Set(set);
     }
-    match table::order_named(&name) {
-        Some(order) => Meaning::Order(order as u8),
-        None => Meaning::Unknown,
+    if let Some(block) = table::get_named(&name) {
+        return Meaning::Get(block);
+    }
+    if let Some(order) = table::order_named(&name) {
+        return Meaning::Order(order as u8);
+    }
+    match &name {
+        GPOS => Meaning::Position,
+        ZERO => Meaning::Clear,
+        _ => Meaning::Unknown,
     }
 }
 
@@ -74,6 +89,8 @@ enum End {
     Unknown,
     Order(u8),
     Get(usize),
+    Position,
+    Clear,
     Set(usize),
 }
 
@@ -84,7 +101,8 @@ impl End {
             End::NotYet => 0,
             End::Zero => 1,
             End::Get(block) => TOTAL[block - 1],
-            End::Unknown | End::Order(_) | End::Set(_) => 4,
+            End::Position => GPOS_TOTAL,
+            End::Unknown | End::Order(_) | End::Clear | End::Set(_) => 4,
         }
     }
 }
@@ -92,12 +110,21 @@ impl End {
 // What a call needs is inlined, so that it holds no test of a fault.
 impl Second {
     pub fn fresh() -> Second {
+        Second::broken_fresh(Fault::None)
+    }
+
+    /// A fresh receiver that is wrong in one place.
+    pub fn broken_fresh(fault: Fault) -> Second {
         let mut data = [[0; DATA]; BLOCKS];
         for (i, data) in data.iter_mut().enumerate() {
             let fresh = row(i + 1).fresh();
             data[..fresh.len()].copy_from_slice(&fresh);
         }
-        Second { data, flags: 0, refused: (0, 0), unit: [0; FRAME], len: 0, stamp: 0 }
+        let mut position = [0; POSITION];
+        if fault == Fault::FreshPosition {
+            position[TRAVEL] = 1;
+        }
+        Second { data, position, last_set: [0; POSITION], flags: 0, refused: (0, 0), unit: [0; FRAME], len: 0, stamp: 0 }
     }
 
     /// One call of 01.
@@ -115,9 +142,19 @@ impl Second {
         self.look(Fault::None, now)
     }
 
-    /// A report to a receiver that is wrong in one place.
+    /// A report of the time to a receiver that is wrong in one place.
     pub fn broken_report_clock(&mut self, fault: Fault, now: u32) -> u8 {
         self.look(fault, now)
+    }
+
+    /// A report of the drive's position; the answer's number.
+    pub fn report_position(&mut self, position: [u8; POSITION]) -> u8 {
+        self.hear(Fault::None, position)
+    }
+
+    /// A report of the drive's position to a receiver that is wrong in one place.
+    pub fn broken_report_position(&mut self, fault: Fault, position: [u8; POSITION]) -> u8 {
+        self.hear(fault, position)
     }
 
     /// The rule of soundness that the state breaks, if one.
@@ -128,7 +165,7 @@ impl Second {
             1..=3 if self.unit[0] == 0 => return Some(Fault::ZeroBegins),
             1..=3 => {}
             4..=FRAME => match self.name() {
-                Meaning::Set(block) if self.len >= TOTAL[block - 1] => return Some(Fault::WholeSetBegins),
+                Meaning::Set(set) if self.len >= TOTAL[set - 1] => return Some(Fault::WholeSetBegins),
                 Meaning::Set(_) => {}
                 _ => return Some(Fault::AnyNameBegins),
             },
@@ -143,6 +180,9 @@ impl Second {
                 let flags = row(block).fields[bad - 1].has_flags();
                 return Some(if flags { Fault::UnknownBit } else { Fault::FieldOutOfRange });
             }
+        }
+        if !MICRO.takes(&self.position[4..TRAVEL]) {
+            return Some(Fault::PositionOutOfRange);
         }
         None
     }
@@ -186,6 +226,33 @@ impl Second {
         }
         if fault == Fault::ReportSetsStamp {
             self.stamp = now;
+        }
+        0
+    }
+
+    // The soundness is a right call's, as above.
+    #[inline(always)]
+    fn hear(&mut self, fault: Fault, position: [u8; POSITION]) -> u8 {
+        let refused = self.unsound(Fault::None).is_some() && fault != Fault::PositionReportAcceptsUnsound;
+        let wide = fault.reported_wide(&position[4..TRAVEL]);
+        if refused && !(wide && fault == Fault::PositionReportRangeFirst) {
+            return 3;
+        }
+        if wide {
+            if fault == Fault::PositionReportStoresRefused {
+                self.position = position;
+            }
+            return 5;
+        }
+        match fault {
+            Fault::PositionReportChangesNothing => return 0,
+            Fault::PositionReportLeavesCount => self.position[..TRAVEL].copy_from_slice(&position[..TRAVEL]),
+            _ => self.position = position,
+        }
+        match fault {
+            Fault::PositionReportDrops => self.len = 0,
+            Fault::PositionReportSetsStamp => self.stamp = 0,
+            _ => {}
         }
         0
     }
@@ -235,7 +302,7 @@ impl Second {
         match self.len {
             0..=3 => 0,
             _ => match self.name() {
-                Meaning::Set(block) => block,
+                Meaning::Set(set) => set,
                 _ => 0,
             },
         }
@@ -248,12 +315,14 @@ impl Second {
             0 if byte == 0 => End::Zero,
             0..=2 => End::NotYet,
             3 => match meaning([self.unit[0], self.unit[1], self.unit[2], byte]) {
-                Meaning::Set(block) => {
-                    *begun = block;
+                Meaning::Set(set) => {
+                    *begun = set;
                     End::NotYet
                 }
                 Meaning::Get(block) => End::Get(block),
                 Meaning::Order(order) => End::Order(order),
+                Meaning::Position => End::Position,
+                Meaning::Clear => End::Clear,
                 Meaning::Unknown => End::Unknown,
             },
             _ if byte == 0 && fault == Fault::ZeroResynchronises => End::Zero,
@@ -288,7 +357,11 @@ impl Second {
                 continue;
             }
             self.answer(fault, end, &mut reply[out.written..out.written + due], &mut out);
-            if out.order != 0 && fault != Fault::GoesOnAfterOrder {
+            let stops = match end {
+                End::Clear => fault == Fault::ZeroStopsCall,
+                _ => out.order != 0 && fault != Fault::GoesOnAfterOrder,
+            };
+            if stops {
                 break;
             }
         }
@@ -307,7 +380,7 @@ impl Second {
         }
         self.unit[at] = byte;
         self.len = at + 1;
-        if fault == Fault::StoredAsTheyCome && at >= 4 && at < 4 + row(begun).used() {
+        if fault == Fault::StoredAsTheyCome && at >= 4 && begun <= BLOCKS && at < 4 + row(begun).used() {
             self.data[begun - 1][at - 4] = byte;
         }
     }
@@ -333,19 +406,21 @@ impl Second {
                 to.copy_from_slice(&self.unit[..4]);
                 out.order = order;
             }
-            End::Get(block) => self.send(fault, block, to),
-            End::Set(block) => to.copy_from_slice(&self.judge(fault, block)),
+            End::Get(block) => self.send(fault, &self.data[block - 1], to),
+            End::Position => self.send_position(fault, to),
+            End::Clear => self.clear(fault, to, out),
+            End::Set(set) => to.copy_from_slice(&self.judge(fault, set, out)),
         }
         if fault == Fault::ConstantReply {
             to.fill(b'e');
         }
     }
 
-    /// A get's reply.
+    /// A get's reply: as much of the data section as it has room for.
     #[inline(always)]
-    fn send(&self, fault: Fault, block: usize, to: &mut [u8]) {
+    fn send(&self, fault: Fault, data: &[u8; DATA], to: &mut [u8]) {
         let end = to.len() - 2;
-        let data = &self.data[block - 1][..end - 4];
+        let data = &data[..end - 4];
         let sum = crc(data);
         to[..4].copy_from_slice(&self.unit[..4]);
         to[4..end].copy_from_slice(data);
@@ -355,10 +430,39 @@ impl Second {
         });
     }
 
+    /// A reply to gpos.
+    #[inline(always)]
+    fn send_position(&self, fault: Fault, to: &mut [u8]) {
+        let mut position = if fault == Fault::GposSendsWhatWasSet { self.last_set } else { self.position };
+        if fault == Fault::GposExchanged {
+            position[..TRAVEL].rotate_left(4);
+        }
+        let mut data = [0; DATA];
+        data[..POSITION].copy_from_slice(&position);
+        self.send(fault, &data, to);
+    }
+
+    /// The command zero.
+    #[inline(always)]
+    fn clear(&mut self, fault: Fault, to: &mut [u8], out: &mut Outcome) {
+        let cleared = match fault {
+            Fault::ZeroClearsCount => POSITION,
+            Fault::ZeroKeepsMicrosteps => 4,
+            _ => TRAVEL,
+        };
+        self.position[..cleared].fill(0);
+        to.copy_from_slice(&self.unit[..4]);
+        match fault {
+            Fault::ZeroNotEchoed => to.fill(0),
+            Fault::ZeroGivesOrder => out.order = 8,
+            _ => {}
+        }
+    }
+
     /// A whole set: its CRC, then its fields; the reply.
     #[inline(always)]
-    fn judge(&mut self, fault: Fault, block: usize) -> [u8; 4] {
-        let total = TOTAL[block - 1];
+    fn judge(&mut self, fault: Fault, set: usize, out: &mut Outcome) -> [u8; 4] {
+        let total = TOTAL[set - 1];
         let sent = match fault {
             Fault::CrcHighByteFirst => u16::from_be_bytes([self.unit[total - 2], self.unit[total - 1]]),
             _ => u16::from_le_bytes([self.unit[total - 2], self.unit[total - 1]]),
@@ -371,13 +475,13 @@ impl Second {
         }
         let mut data = [0; DATA];
         data.copy_from_slice(&self.unit[4..4 + DATA]);
-        let bad = fault.bad_field(block, &data);
-        let kept = total - 6 - if fault == Fault::ReservedKept { 0 } else { row(block).reserved };
+        let bad = fault.bad_field(set, &data);
+        let used = total - 6 - row(set).reserved;
         if bad != 0 {
             self.raise(fault, 4);
-            self.refused = (block, bad);
-            if fault == Fault::HalfASetting {
-                self.data[block - 1][..kept / 2].copy_from_slice(&data[..kept / 2]);
+            self.refused = (if fault == Fault::MovrRefusedAsMove && set == 9 { 8 } else { set }, bad);
+            if fault == Fault::HalfASetting && set <= BLOCKS {
+                self.keep(set, &data, used / 2);
             }
             return *b"errv";
         }
@@ -385,8 +489,52 @@ impl Second {
             self.raise(fault, 2);
             return *b"errd";
         }
-        self.data[block - 1][..kept].copy_from_slice(&data[..kept]);
+        match set {
+            8 | 9 => self.travel(fault, set, &data, out),
+            10 => self.put_position(fault, &data),
+            _ if fault == Fault::ReservedKept => self.keep(set, &data, total - 6),
+            _ => self.keep(set, &data, used),
+        }
         [self.unit[0], self.unit[1], self.unit[2], self.unit[3]]
+    }
+
+    /// Keeps so many bytes of a block's data section.
+    #[inline(always)]
+    fn keep(&mut self, block: usize, data: &[u8; DATA], bytes: usize) {
+        self.data[block - 1][..bytes].copy_from_slice(&data[..bytes]);
+    }
+
+    /// An accepted move or movr.
+    #[inline(always)]
+    fn travel(&mut self, fault: Fault, set: usize, data: &[u8; DATA], out: &mut Outcome) {
+        out.order = if fault == Fault::OrderNineForEight { 9 } else { set as u8 };
+        if fault != Fault::TravelLeftOut {
+            out.travel.copy_from_slice(&data[..TRAVEL]);
+        }
+        match fault {
+            Fault::TravelExchanged => out.travel.rotate_left(2),
+            Fault::MoveStored => self.position[..TRAVEL].copy_from_slice(&data[..TRAVEL]),
+            _ => {}
+        }
+    }
+
+    /// An accepted spos: its flags leave steps and microsteps, or the count.
+    #[inline(always)]
+    fn put_position(&mut self, fault: Fault, data: &[u8; DATA]) {
+        let flags = data[POSITION];
+        let leaves_travel = flags & 1 != 0;
+        let leaves_count = match fault {
+            Fault::Flag1LeavesCount => flags != 0,
+            Fault::Flag2Ignored => false,
+            _ => flags & 2 != 0,
+        };
+        if !leaves_travel {
+            self.position[..TRAVEL].copy_from_slice(&data[..TRAVEL]);
+        }
+        if !leaves_count {
+            self.position[TRAVEL..].copy_from_slice(&data[TRAVEL..POSITION]);
+        }
+        self.last_set = self.position;
     }
 }
 
@@ -489,6 +637,90 @@ mod tests {
         let unsound = Second { len: FRAME + 1, ..Second::fresh() };
         let mut second = unsound.clone();
         assert_eq!((second.report_clock(401), second), (3, unsound));
+    }
+
+    fn travel(steps: i32, microsteps: i16) -> [u8; TRAVEL] {
+        let (s, m) = (steps.to_le_bytes(), microsteps.to_le_bytes());
+        [s[0], s[1], s[2], s[3], m[0], m[1]]
+    }
+
+    fn position(steps: i32, microsteps: i16, count: i64) -> [u8; POSITION] {
+        let bytes = [&travel(steps, microsteps)[..], &count.to_le_bytes()].concat();
+        bytes.try_into().expect("a whole position")
+    }
+
+    /// 004's worked movr with the CRC that it has there, and with the right one; what a refused one leaves.
+    #[test]
+    fn travels() {
+        let mut second = Second::fresh();
+        let front = [200, 0, 0, 0];
+        assert_eq!(offer(&mut second, &set(b"movr", &front, 8, [0x53, 0xC7]), 0), (b"errd".to_vec(), vec![]));
+        let mut reply = [0; FRAME];
+        let piece = [&set(b"movr", &front, 8, [0x86, 0x9C])[..], b"stop"].concat();
+        let out = second.call(&piece, 0, &mut reply);
+        assert_eq!((out.taken, out.order, out.travel, &reply[..out.written]), (18, 9, travel(200, 0), &b"movr"[..]));
+        let extreme = [&travel(i32::MIN, -255)[..], &[7; 6]].concat();
+        let out = second.call(&row(8).set_frame(&extreme), 0, &mut reply);
+        assert_eq!((out.order, out.travel), (8, travel(i32::MIN, -255)));
+        for (number, microsteps) in [(8, 256), (9, -256)] {
+            let section = [&travel(1, microsteps)[..], &[0; 6]].concat();
+            assert_eq!(offer(&mut second, &row(number).set_frame(&section), 0), (b"errv".to_vec(), vec![]));
+            assert_eq!(second.refused, (number, 2));
+        }
+        assert_eq!((second.position, second.flags), ([0; POSITION], 6));
+    }
+
+    fn spos(position: [u8; POSITION], flags: u8) -> Vec<u8> {
+        row(10).set_frame(&[&position[..], &[flags], &[0; 5]].concat())
+    }
+
+    /// What each flag leaves, what is refused, and what zero keeps.
+    #[test]
+    fn positions() {
+        let set = position(i32::MIN, -255, i64::MIN);
+        let stood = position(3, 2, 1);
+        let kept = [(0, set), (1, position(3, 2, i64::MIN)), (2, position(i32::MIN, -255, 1)), (3, stood)];
+        for (flags, next) in kept {
+            let mut second = Second { position: stood, ..Second::fresh() };
+            assert_eq!(offer(&mut second, &spos(set, flags), 0), (b"spos".to_vec(), vec![]));
+            assert_eq!(second.position, next);
+            let answer = offer(&mut second, b"gpos", 0).0;
+            assert_eq!((&answer[..4], &answer[4..18], &answer[18..24]), (&b"gpos"[..], &next[..], &[0; 6][..]));
+            assert_eq!(answer[24..], crc(&answer[4..24]).to_le_bytes());
+            assert_eq!(offer(&mut second, b"zero", 0), (b"zero".to_vec(), vec![]));
+            assert_eq!((&second.position[..TRAVEL], &second.position[TRAVEL..]), (&[0; TRAVEL][..], &next[TRAVEL..]));
+        }
+        // Microsteps are tested where they are left, and before the flags.
+        for (microsteps, flags, field) in [(255, 4, 4), (256, 3, 2), (-256, 4, 2)] {
+            let mut second = Second { position: stood, ..Second::fresh() };
+            assert_eq!(offer(&mut second, &spos(position(0, microsteps, 0), flags), 0).0, b"errv");
+            assert_eq!((second.refused, second.position), ((10, field), stood));
+        }
+    }
+
+    /// A report inside gpos, one that is refused, and one to a state that is not sound.
+    #[test]
+    fn position_reports() {
+        let mut second = Second::fresh();
+        offer(&mut second, b"gp", 7);
+        for (microsteps, number) in [(-256, 5), (-255, 0), (256, 5), (255, 0)] {
+            let before = second.clone();
+            let next = position(-1, microsteps, -1);
+            assert_eq!(second.report_position(next), number);
+            assert_eq!(second, Second { position: if number == 0 { next } else { before.position }, ..before });
+        }
+        assert_eq!(offer(&mut second, b"os", 407).0[4..18], position(-1, 255, -1));
+        let unsound = Second { position: position(0, 256, 0), ..Second::fresh() };
+        for microsteps in [0, 256] {
+            let mut second = unsound.clone();
+            assert_eq!((second.report_position(position(0, microsteps, 0)), second), (3, unsound.clone()));
+        }
+        assert_eq!(unsound.clone().call(b"", 0, &mut [0; FRAME]).number, 3);
+        for (held, number) in [(17, 0), (18, 3)] {
+            let mut second = Second { len: held, ..Second::fresh() };
+            second.unit[..4].copy_from_slice(b"move");
+            assert_eq!(second.call(b"", 0, &mut [0; FRAME]).number, number);
+        }
     }
 
     #[test]

@@ -3,7 +3,7 @@
 //! It can be broken on purpose (`Fault`), to see that a comparison notices.
 
 use crate::fault::Fault;
-use crate::table::{block_named, order_named, row, ORDERS};
+use crate::table::{get_named, order_named, row, set_named, BLOCKS, ORDERS};
 
 /// Reserved bytes in the data section of a set count for nothing.
 #[derive(Clone, PartialEq, Debug)]
@@ -37,14 +37,14 @@ fn in_range(fault: Fault, number: usize, data: &[u8]) -> bool {
 
 fn frame(fault: Fault, request: &Request) -> Vec<u8> {
     match request {
-        Request::Get(number) => row(*number).named(b'g'),
+        Request::Get(number) => row(*number).get(),
         Request::Order(number) => ORDERS[number - 1].to_vec(),
         Request::Set(number, data) => {
             let mut data = data.clone();
             if fault != Fault::HostReservedSent {
                 data[row(*number).used()..].fill(0);
             }
-            let mut frame = row(*number).framed(b's', &data);
+            let mut frame = row(*number).set_frame(&data);
             if fault == Fault::HostCrcHighByteFirst {
                 let end = frame.len() - 2;
                 frame[end..].reverse();
@@ -90,7 +90,7 @@ fn read_data(fault: Fault, number: usize, bytes: &[u8]) -> Result<(Answer, usize
         return Err(7);
     }
     let data = &bytes[4..total - 2];
-    if bytes[..total] != row.framed(b'g', data) && fault != Fault::HostCrcUnread {
+    if bytes[..total] != row.get_frame(data) && fault != Fault::HostCrcUnread {
         return Err(8);
     }
     let judged = match fault {
@@ -111,14 +111,14 @@ pub fn read(fault: Fault, bytes: &[u8]) -> Result<(Answer, usize), u8> {
         return Ok((Answer::Zero, 1));
     }
     let Some(name) = bytes.first_chunk::<4>() else { return Err(5) };
-    let named = block_named(&name[1..]);
-    let ordered = order_named(name);
-    let answer = match (name, named, ordered) {
+    // "later commands stay outside"
+    let set = set_named(name).filter(|&number| number <= BLOCKS);
+    let answer = match (name, get_named(name), set, order_named(name)) {
         (b"errc", ..) => Answer::Errc,
         (b"errd", ..) => Answer::Errd,
         (b"errv", ..) => Answer::Errv,
-        ([b'g', ..], Some(number), _) => return read_data(fault, number, bytes),
-        ([b's', ..], Some(number), _) => Answer::SetEcho(number),
+        (_, Some(number), ..) => return read_data(fault, number, bytes),
+        (_, _, Some(number), _) => Answer::SetEcho(number),
         (.., Some(number)) => Answer::OrderEcho(number),
         // Under 20 bytes are fewer than any data answer needs.
         _ if fault == Fault::HostCutBeforeName && bytes.len() < 20 => return Err(7),
@@ -181,13 +181,15 @@ mod tests {
     fn reads() {
         let data = brake_frame(b'g');
         let damaged = [&data[..24], &[1]].concat();
-        let cases: [(&[u8], _); 8] = [
+        let cases: [(&[u8], _); 10] = [
             (&[0], Ok((Answer::Zero, 1))),
             (b"errvx", Ok((Answer::Errv, 4))),
             (b"shom", Ok((Answer::SetEcho(5), 4))),
             (b"sstp", Ok((Answer::OrderEcho(2), 4))),
             (b"gmo", Err(5)),
             (b"gxyz", Err(6)),
+            (b"move", Err(6)),
+            (b"gpos", Err(6)),
             (&data[..24], Err(7)),
             (&damaged, Err(8)),
         ];

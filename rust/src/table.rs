@@ -1,5 +1,5 @@
-//! 01's tables of blocks and orders, with 02's known flag bits. The second receiver, the second host and the generator share them. Written
-//! from the sheets, with no code or table of the library.
+//! 01's tables of blocks and orders, with 02's known flag bits, and 02's sets of P5. The second receiver, the second host and the generator
+//! share them. Written from the sheets, with no code or table of the library.
 
 use crate::second::crc;
 
@@ -18,15 +18,18 @@ const U8: Field = Field::Whole(1, 0, 0xFF);
 const U16: Field = Field::Whole(2, 0, 0xFFFF);
 const S16: Field = Field::Whole(2, -0x8000, 0x7FFF);
 const S32: Field = Field::Whole(4, -0x8000_0000, 0x7FFF_FFFF);
+const S64: Field = Field::Whole(8, -0x8000_0000_0000_0000, 0x7FFF_FFFF_FFFF_FFFF);
 const SPEED: Field = Field::Whole(4, 0, 100_000);
-const MICRO: Field = Field::Whole(2, -255, 255);
+pub const MICRO: Field = Field::Whole(2, -255, 255);
 const POSITIVE: Field = Field::Whole(2, 1, 0xFFFF);
+const CURRENT: Field = Field::Whole(2, 15, 8000);
 const ENGINE_FLAGS: Field = Field::Flags(2, 0xFF);
 const POWER_FLAGS: Field = Field::Flags(1, 0x07);
 const BORDER_FLAGS: Field = Field::Flags(1, 0x0F);
 const ENDER_FLAGS: Field = Field::Flags(1, 0x07);
 const HOME_FLAGS: Field = Field::Flags(2, 0x1FF);
 const BRAKE_FLAGS: Field = Field::Flags(1, 0x03);
+const POSITION_FLAGS: Field = Field::Flags(1, 0x03);
 
 impl Field {
     pub const fn width(self) -> usize {
@@ -77,9 +80,9 @@ impl Field {
     }
 }
 
-/// A block: its name behind the letter of a set or a get.
+/// A set's name and data section: of a block that a board keeps and a get sends, or of move, movr or spos.
 pub struct Row {
-    pub name: &'static [u8; 3],
+    pub set: &'static [u8; 4],
     pub fields: &'static [Field],
     pub reserved: usize,
 }
@@ -88,10 +91,14 @@ pub struct Row {
 const NAME: usize = 4;
 const CRC: usize = 2;
 
+fn framed(name: &[u8], data: &[u8]) -> Vec<u8> {
+    [name, data, &crc(data).to_le_bytes()].concat()
+}
+
 impl Row {
-    /// Its set's name or its get's, by the letter in front.
-    pub fn named(&self, letter: u8) -> Vec<u8> {
-        [&[letter], &self.name[..]].concat()
+    /// A block's get: "The set begins with s, the get with g".
+    pub fn get(&self) -> Vec<u8> {
+        [b"g", &self.set[1..]].concat()
     }
 
     /// The bytes of its fields, which the reserved ones follow.
@@ -108,9 +115,14 @@ impl Row {
         NAME + self.used() + self.reserved + CRC
     }
 
-    /// The frame of this data section behind the set's name or the get's.
-    pub fn framed(&self, letter: u8, data: &[u8]) -> Vec<u8> {
-        [&self.named(letter), data, &crc(data).to_le_bytes()].concat()
+    /// The set of this data section.
+    pub fn set_frame(&self, data: &[u8]) -> Vec<u8> {
+        framed(self.set, data)
+    }
+
+    /// The answer of this data section to a block's get.
+    pub fn get_frame(&self, data: &[u8]) -> Vec<u8> {
+        framed(&self.get(), data)
     }
 
     /// The data section of a fresh board, less its reserved bytes.
@@ -159,24 +171,36 @@ impl<'d> Test<'d> {
 /// The rows, and what the second receiver asks of them in every call: written out field by field and name by name, since a loop over the
 /// rows takes ten times as long.
 macro_rules! rows {
-    ($($number:literal $name:literal [$($field:expr),*] $reserved:literal;)*) => {
-        pub const BLOCKS: usize = [$($number),*].len();
+    ($($number:literal $set:literal $($get:literal)? [$($field:expr),*] $reserved:literal;)*) => {
+        /// The blocks that a board keeps and a get sends.
+        pub const BLOCKS: usize = [$($($get,)?)*].len();
+        /// All sets: the blocks', then move, movr and spos.
+        pub const SETS: usize = [$($number),*].len();
 
-        pub const ROWS: [Row; BLOCKS] = [$(Row { name: $name, fields: &[$($field),*], reserved: $reserved }),*];
+        pub const ROWS: [Row; SETS] = [$(Row { set: $set, fields: &[$($field),*], reserved: $reserved }),*];
 
-        /// The number of the block that has this name.
+        /// The number of the set that has this name.
         #[inline(always)]
-        pub fn block_named(name: &[u8]) -> Option<usize> {
+        pub fn set_named(name: &[u8; NAME]) -> Option<usize> {
             match name {
-                $($name => Some($number),)*
+                $($set => Some($number),)*
                 _ => None,
             }
         }
 
-        /// The number of the first field of a block that does not take what this data section holds, 0 if there is none.
+        /// The number of the block whose get has this name.
         #[inline(always)]
-        pub fn bad_field(block: usize, data: &[u8; DATA]) -> usize {
-            match block {
+        pub fn get_named(name: &[u8; NAME]) -> Option<usize> {
+            match name {
+                $($($get => Some($number),)?)*
+                _ => None,
+            }
+        }
+
+        /// The number of the first field of a set that does not take what this data section holds, 0 if there is none.
+        #[inline(always)]
+        pub fn bad_field(number: usize, data: &[u8; DATA]) -> usize {
+            match number {
                 $($number => Test::of(data)$(.field($field))*.bad,)*
                 _ => 0,
             }
@@ -184,20 +208,34 @@ macro_rules! rows {
     };
 }
 
-// A block's number and name, its fields, how many bytes are reserved.
+// A number, its set and, of a block, its get; the fields, how many bytes are reserved.
 rows! {
-    1 b"mov" [SPEED, U8, POSITIVE, POSITIVE, SPEED, U8] 10;
-    2 b"eng" [U16, Field::Whole(2, 15, 8000), Field::Whole(4, 1, 100_000), U8, ENGINE_FLAGS, S16, Field::Whole(1, 1, 9), POSITIVE] 12;
-    3 b"pwr" [Field::Whole(1, 0, 100), U16, U16, U16, POWER_FLAGS] 6;
-    4 b"eds" [BORDER_FLAGS, ENDER_FLAGS, S32, MICRO, S32, MICRO] 6;
-    5 b"hom" [SPEED, U8, SPEED, U8, S32, MICRO, HOME_FLAGS] 9;
-    6 b"brk" [U16, U16, U16, U16, BRAKE_FLAGS] 10;
-    7 b"pid" [U16, U16, U16, Field::Float, Field::Float, Field::Float] 24;
+    1 b"smov" b"gmov" [SPEED, U8, POSITIVE, POSITIVE, SPEED, U8] 10;
+    2 b"seng" b"geng" [U16, CURRENT, Field::Whole(4, 1, 100_000), U8, ENGINE_FLAGS, S16, Field::Whole(1, 1, 9), POSITIVE] 12;
+    3 b"spwr" b"gpwr" [Field::Whole(1, 0, 100), U16, U16, U16, POWER_FLAGS] 6;
+    4 b"seds" b"geds" [BORDER_FLAGS, ENDER_FLAGS, S32, MICRO, S32, MICRO] 6;
+    5 b"shom" b"ghom" [SPEED, U8, SPEED, U8, S32, MICRO, HOME_FLAGS] 9;
+    6 b"sbrk" b"gbrk" [U16, U16, U16, U16, BRAKE_FLAGS] 10;
+    7 b"spid" b"gpid" [U16, U16, U16, Field::Float, Field::Float, Field::Float] 24;
+    8 b"move" [S32, MICRO] 6;
+    9 b"movr" [S32, MICRO] 6;
+    10 b"spos" [S32, MICRO, S64, POSITION_FLAGS] 5;
 }
 
 pub const ORDERS: [&[u8; 4]; 7] = [b"stop", b"sstp", b"pwof", b"left", b"rigt", b"home", b"loft"];
 
-/// The block that has this number.
+/// The get of the position, and what clears it but for the count.
+pub const GPOS: &[u8; NAME] = b"gpos";
+pub const ZERO: &[u8; NAME] = b"zero";
+
+/// The bytes of a travel: steps, then microsteps.
+pub const TRAVEL: usize = 6;
+/// The bytes of a position: a travel's, then the encoder count.
+pub const POSITION: usize = TRAVEL + 8;
+/// The total of gpos's answer, in which 6 bytes are reserved.
+pub const GPOS_TOTAL: usize = NAME + POSITION + 6 + CRC;
+
+/// The set that has this number.
 pub fn row(number: usize) -> &'static Row {
     &ROWS[number - 1]
 }
@@ -208,10 +246,10 @@ pub fn order_named(name: &[u8]) -> Option<usize> {
     ORDERS.iter().position(|order| *order == name).map(|i| i + 1)
 }
 
-/// Each block's total.
-pub const TOTAL: [usize; BLOCKS] = {
-    let (mut totals, mut i) = ([0; BLOCKS], 0);
-    while i < BLOCKS {
+/// Each set's total.
+pub const TOTAL: [usize; SETS] = {
+    let (mut totals, mut i) = ([0; SETS], 0);
+    while i < SETS {
         totals[i] = ROWS[i].total();
         i += 1;
     }
@@ -221,7 +259,7 @@ pub const TOTAL: [usize; BLOCKS] = {
 /// The longest total: of a set's frame and of an answer.
 pub const FRAME: usize = {
     let (mut longest, mut i) = (0, 0);
-    while i < BLOCKS {
+    while i < SETS {
         if TOTAL[i] > longest {
             longest = TOTAL[i];
         }
@@ -238,11 +276,14 @@ mod tests {
     use super::*;
     use crate::generator::{self, Random};
 
-    /// The numbers and totals that 01 writes are those of the rows.
+    /// The numbers and totals that 01 and 02 write are those of the rows.
     #[test]
     fn totals() {
-        assert_eq!(TOTAL, [30, 34, 20, 26, 33, 25, 48]);
-        assert!((1..=BLOCKS).all(|number| block_named(row(number).name) == Some(number)));
+        assert_eq!(TOTAL, [30, 34, 20, 26, 33, 25, 48, 18, 18, 26]);
+        assert_eq!((BLOCKS, GPOS_TOTAL), (7, 26));
+        assert!((1..=SETS).all(|number| set_named(row(number).set) == Some(number)));
+        let got = |number| get_named(row(number).get().first_chunk().expect("four letters"));
+        assert!((1..=SETS).all(|number| got(number) == (number <= BLOCKS).then_some(number)));
     }
 
     /// "On a fresh board every field is 0, or the smallest allowed value where 0 is not allowed".
@@ -280,7 +321,7 @@ mod tests {
     fn first_bad_field() {
         let mut random = Random(1);
         for round in 0..10_000 {
-            let number = generator::any_block(&mut random);
+            let number = generator::any_set(&mut random);
             let section = generator::data(&mut random, number, round % 4);
             let mut data = [0; DATA];
             data[..section.len()].copy_from_slice(&section);

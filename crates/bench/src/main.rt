@@ -45,10 +45,9 @@ fn call_once(board: Board, stamp: u32, piece: &[u8]) -> Call
     let mut reply = [0u8; ROOM];
     let call = receiver::receive(board, piece, stamp, &mut reply);
     let order = call.order;
-    let number = names::order_number(order);
     let written = call.written;
     let mut line = [0u8; 600];
-    let n = trace::write_line(&mut line, stamp, call.taken, number, &reply[..written]);
+    let n = trace::write_line(&mut line, stamp, call.taken, order, &reply[..written]);
     say(&line[..n]);
     call
 }

@@ -17,7 +17,6 @@ use Rattle.state.specs.declared.Board.{Board}
 use Rattle.state.proofs.Boards.{state-board}
 use Rattle.clock.specs.Clock.{overdue, dropped, clocked}
 use Rattle.clock.specs.Report.{clockedBoard, reported}
-use Rattle.clock.specs.declared.Report.{Report}
 
 module _ (b : Board) (now : ℕ) where
   -- "Refusals: 3 as in 01."

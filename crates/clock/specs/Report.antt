@@ -6,7 +6,7 @@ use Rattle.state.specs.State.{stateOf, boardOf}
 use Rattle.state.specs.Sound.{refusalOf}
 use Rattle.state.specs.declared.Board.{Board}
 use Rattle.clock.specs.Clock.{overdue, dropped}
-use Rattle.clock.specs.declared.Report.{Report}
+use Rattle.state.specs.declared.Report.{Report}
 
 -- what is overdue is dropped, and a board that drops nothing stays as it is, spare bytes too
 abbrev pub clockedBoard : Board → ℕ → Board

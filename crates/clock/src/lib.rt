@@ -1,14 +1,9 @@
 // The time: how long a wait is, and a report of the time to the board (02, P3).
 use state::Board;
+use state::Report;
 ghost use mathlib.Core.Path.{_≡_};
 ghost use Rattle.rule.specs.Run.{late};
 ghost use Rattle.clock.specs.Report.{reported};
-
-#[repr(C)]
-pub struct Report {
-    pub number: u8,
-    pub board: Board,
-}
 
 // "The wait is the later stamp minus the earlier one", more than 400. Calls and reports share it.
 pub fn is_late(later: u32, earlier: u32) -> bool

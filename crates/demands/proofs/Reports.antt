@@ -3,7 +3,6 @@ use Prim.Native.Nat.{ℕ}
 use mathlib.Core.Path.{_≡_, refl, ap, sym, _∙_}
 use mathlib.Core.Bool.{true, cond}
 use lib.Dec.{eqb}
-use borrow.Author.Tests.{eq-eqb, ne-eqb}
 use Rattle.rule.proofs.Choice.{either}
 use Rattle.unit.specs.Protocol.{soundState}
 use Rattle.state.specs.State.{stateOf}
@@ -12,7 +11,7 @@ use Rattle.state.specs.declared.Board.{Board}
 use Rattle.state.proofs.Boards.{refusal-none}
 use Rattle.clock.specs.Clock.{overdue}
 use Rattle.clock.specs.Report.{clockedBoard, reported}
-use Rattle.clock.specs.declared.Report.{Report}
+use Rattle.state.specs.declared.Report.{Report}
 use Rattle.clock.proofs.Clock.{clock-sound}
 use Rattle.clock.proofs.Reports.{report-refused as kept-board, report-heard, clocked-state}
 use Rattle.demands.specs.Reports.{Reports, allowed}

@@ -17,29 +17,34 @@ use Rattle.sheet.specs.Sheet.{setTable}
 use Rattle.rule.specs.Run.{Item, byte, event, bytes, at}
 use Rattle.rule.specs.Framing.{Token, whole}
 use Rattle.rule.specs.Rule.{Said, quiet, then, State, deal, wholeRun, stateAt}
-use Rattle.rule.specs.Step.{steps}
+use Rattle.rule.specs.Step.{step, steps}
 use Rattle.rule.specs.Calls.{Called, call}
-use Rattle.rule.specs.Facts.{spent}
+use Rattle.rule.specs.Facts.{spent, EventsOf}
 use Rattle.rule.proofs.Choice.{either}
 use Rattle.rule.proofs.Said.{deal-append}
 use Rattle.rule.proofs.Steps.{steps-append, steps-is-whole}
 use Rattle.rule.proofs.Calls.{call-steps}
+use Rattle.rule.proofs.Loop.{steps-join}
 use Rattle.rule.proofs.Bytes.{units-bytes}
 use Rattle.rule.proofs.Numbered.{call-accepted}
 use Rattle.names.specs.Names.{given, kindAt, nameIn}
 use Rattle.names.specs.declared.Order.{Order}
 use Rattle.names.specs.declared.Kind.{Kind}
-use Rattle.names.specs.declared.Kind.the-variants.{Set, Get}
+use Rattle.names.specs.declared.Kind.the-variants.{Set, Get, Finds}
 use Rattle.names.proofs.Need.{need-law}
-use Rattle.unit.specs.Unit.{Event, clock, freshMemory, does, act}
+use Rattle.unit.specs.Unit.{Event, clock, position, freshMemory, does, act}
 use Rattle.unit.specs.Protocol.{protocol, freshState}
 use Rattle.unit.specs.Kept.{Refused, Echoed, Without, getReply, FlagsStay}
+use Rattle.unit.specs.Touched.{stepsPart, microstepsPart, countPart, standsAt, positionReply}
 use Rattle.unit.specs.declared.Memory.{Memory}
 use Rattle.unit.proofs.Kept.{refused-set-keeps}
 use Rattle.unit.proofs.Settings.{settings-alone}
 use Rattle.unit.proofs.Replies.{does-length}
 use Rattle.unit.proofs.Flags.{flags-stay}
+use Rattle.unit.proofs.Events.{position-step}
+use Rattle.unit.proofs.Touched.{steps-last, microsteps-last, count-last, found}
 use Rattle.unit.proofs.Runs.{run-get-after-set}
+use Rattle.unit.proofs.Sound.{SoundEvent, sound-begun}
 use Rattle.state.specs.State.{stateOf, boardOf}
 use Rattle.state.specs.Sound.{soundBoard, refusalOf}
 use Rattle.state.specs.declared.Board.{Board}
@@ -48,16 +53,19 @@ use Rattle.state.proofs.Boards.{state-board, refusal-none}
 use Rattle.state.proofs.fresh.Reads as fresh
 use Rattle.clock.specs.Clock.{overdue, dropped}
 use Rattle.clock.specs.Report.{reported}
-use Rattle.clock.specs.declared.Report.{Report}
+use Rattle.state.specs.declared.Report.{Report}
 use Rattle.clock.proofs.Clock.{clock-step}
 use Rattle.clock.proofs.Reports.{clocked-state}
+use Rattle.drive.specs.Report as drive
+use Rattle.drive.specs.Report.{placedBoard, positionRefusal}
 use Rattle.receiver.specs.Receive.{answer}
 use Rattle.receiver.proofs.Calls.{call-order, accept-some}
 use Rattle.demands.specs.Calls.{Answers}
-use Rattle.demands.specs.Reports.{Reports, Tells, time}
-use Rattle.demands.specs.Runs.{saidBy, inState, onBoard, heard, tokensOf, memoryBehind, wordBehind, Step, called, told, done, next, Offered}
+use Rattle.demands.specs.Reports.{Tells, time, place}
+use Rattle.demands.specs.Runs.{saidBy, inState, onBoard, heard, started, tokensOf, memoryBehind, wordBehind, Step, called, told, done, next, Offered}
 use Rattle.demands.proofs.Calls.{promise, rules, is-taken, is-order, is-state, written-is, keeps-sound, receive-some}
 use Rattle.demands.proofs.Reports.{report-promise, report-refused, report-accepted, report-keeps-sound, report-some}
+use Rattle.demands.proofs.Positions.{place-promise, place-numbered, place-refused, place-accepted, place-keeps-sound, place-some}
 
 -- ---- each step is the rule's
 
@@ -77,20 +85,24 @@ module _ {b : Board} {t : ℕ} {p before after : List ℕ} {r : Call} (got : Ans
       ∙ ap (λ (k : ℕ). steps protocol (stateOf b) (at t (take k p))) (sym (is-taken got))
 
 -- so does a report: heard it is the rule's event, refused it is none
-module _ {b : Board} {now : ℕ} {r : Report} (got : Reports b now r) where
-  told-steps : inState (quiet (r .board)) ≡ steps protocol (stateOf b) (heard (r .number) (clock now))
-  unfolding steps
-  told-steps = by (eqb (r .number) 0) refl
-    where
-      by : (y : Bool) → eqb (r .number) 0 ≡ y → inState (quiet (r .board)) ≡ steps protocol (stateOf b) (cond y (event (clock now) ∷ []) [])
-      by true e =
-          let n = ap stateOf (report-accepted got (eqb-true (r .number) 0 e)) ∙ clocked-state b now in
-          ap quiet n ∙ sym (ap (λ (a : Said Order (State Memory)). then a (quiet (a .next))) (clock-step (stateOf b) now))
-      by false e = ap (λ (z : Board). quiet (stateOf z)) (report-refused got (eqb-false (r .number) 0 e))
+heard-steps : {b c : Board} {number : ℕ} (e : Event) → (number ≡ 0 → quiet (stateOf c) ≡ step protocol (stateOf b) (event e)) → ((number ≡ 0 → ⊥) → c ≡ b)
+    → inState (quiet c) ≡ steps protocol (stateOf b) (heard number e)
+unfolding steps
+heard-steps {b} {c} {number} e accepted refused = by (eqb number 0) refl
+  where
+    by : (y : Bool) → eqb number 0 ≡ y → inState (quiet c) ≡ steps protocol (stateOf b) (cond y (event e ∷ []) [])
+    by true n = ap (λ (a : Said Order (State Memory)). then a (quiet (a .next))) (accepted (eqb-true number 0 n))
+    by false n = ap (λ (z : Board). quiet (stateOf z)) (refused (eqb-false number 0 n))
+
+told-steps : {b c : Board} {e : Event} {number : ℕ} → Tells b e number c → inState (quiet c) ≡ steps protocol (stateOf b) (heard number e)
+told-steps {b} (time {now} got) =
+    heard-steps (clock now) (λ z. ap quiet (ap stateOf (report-accepted got z) ∙ clocked-state b now) ∙ sym (clock-step (stateOf b) now)) (report-refused got)
+told-steps {b} (place {p} got) =
+    heard-steps (position p) (λ z. ap (λ (y : Board). quiet (stateOf y)) (place-accepted got z) ∙ sym (position-step (stateOf b) p)) (place-refused got)
 
 step-steps : {b : Board} {items : List (Item Event)} {y : Said Order Board} → Step b items y → inState y ≡ steps protocol (stateOf b) items
 step-steps (called got) = got-steps got
-step-steps (told (time got)) = told-steps got
+step-steps (told report) = told-steps report
 
 -- EVERY OFFERED RUN says and leaves what the byte steps over it do, from whatever board
 pub offered-state : {b : Board} {run : List (Item Event)} {x : Said Order Board} → Offered b run x → inState x ≡ steps protocol (stateOf b) run
@@ -115,6 +127,9 @@ step-tidy {b} (called got) tidy =
 step-tidy {b} (told (time {now} got)) tidy =
     subst Tidy (ap (λ (z : Report). z .board) (sym (report-promise got)))
     (either Tidy (eqb (refusalOf b) 0) _ b (either Tidy (overdue (stateOf b) now) _ b (tidy-board (dropped (stateOf b))) tidy) tidy)
+step-tidy {b} (told (place {p} got)) tidy =
+    subst Tidy (ap (λ (z : Report). z .board) (sym (place-promise got)))
+    (either Tidy (eqb (positionRefusal b p) 0) _ b (λ i. placedBoard (tidy i) p) tidy)
 
 offered-tidy : {b : Board} {run : List (Item Event)} {x : Said Order Board} → Offered b run x → Tidy b → Tidy (x .next)
 offered-tidy (done b) tidy = tidy
@@ -201,6 +216,43 @@ module _ {b : Board} {run : List (Item Event)} {x : Said Order Board} (h : Offer
       let e : Echoed (memoryBehind (b .memory) before) u k = record { kind = set; reply = sym (heard-is before (between ++ (whole g ∷ after)) u cut k set) ∙ word } in
       ap (λ (y : Said Order (State Memory)). y .reply) any-cutting ∙ run-get-after-set (b .memory) (b .stamp) run before between after u g k low cut e w get
 
+-- ---- FROM ANY SOUND START: what is unfinished on the board counts as the run's front
+
+module _ {b : Board} {run : List (Item Event)} {x : Said Order Board} (h : Offered b run x) (sound : soundBoard b ≡ true) where
+  -- demand 3
+  pub any-start : inState x ≡ wholeRun protocol (b .memory) (b .stamp) (started b run)
+  any-start =
+      let u = take (b .count) (b .held) in
+      let idle : State Memory = stateAt (b .memory) [] (b .stamp) in
+      let joined = steps-join protocol need-law (b .memory) (b .stamp) u [] (sound-begun (stateOf b) sound) in
+      offered-state h ∙ ap (λ (a : Said Order (State Memory)). then a (steps protocol (a .next) run)) (sym joined)
+      ∙ sym (steps-append protocol (at (b .stamp) u) run idle) ∙ steps-is-whole protocol need-law (b .memory) (b .stamp) (started b run)
+
+  -- by the tokens of the run
+  start-dealt : (x .reply ≡ deal protocol (b .memory) (tokensOf (started b run)) .reply) × (x .next .memory ≡ memoryBehind (b .memory) (tokensOf (started b run)))
+  unfolding wholeRun
+  start-dealt = (ap (λ (y : Said Order (State Memory)). y .reply) any-start, ap (λ (y : Said Order (State Memory)). y .next .memory) any-start)
+
+  -- 02, P5: where the drive stands at the end, part by part: where the last report, spos or zero left it that touched that part
+  pub position-steps : x .next .memory .position .steps ≡ standsAt stepsPart (b .memory .position) (tokensOf (started b run))
+  position-steps = ap (λ (y : Memory). y .position .steps) (start-dealt .1) ∙ steps-last (tokensOf (started b run)) (b .memory)
+
+  pub position-microsteps : x .next .memory .position .microsteps ≡ standsAt microstepsPart (b .memory .position) (tokensOf (started b run))
+  position-microsteps = ap (λ (y : Memory). y .position .microsteps) (start-dealt .1) ∙ microsteps-last (tokensOf (started b run)) (b .memory)
+
+  pub position-count : x .next .memory .position .count ≡ standsAt countPart (b .memory .position) (tokensOf (started b run))
+  position-count = ap (λ (y : Memory). y .position .count) (start-dealt .1) ∙ count-last (tokensOf (started b run)) (b .memory)
+
+  -- "gpos, which sends the position as it then stands" (02, P5): that behind the tokens before it
+  pub gpos-sends : (before after : List (Token Event)) (g : List ℕ) → tokensOf (started b run) ≡ before ++ whole g ∷ after → kindAt g ≡ Finds
+      → let m = memoryBehind (b .memory) before in x .reply ≡ deal protocol (b .memory) before .reply ++ (positionReply (m .position) ++ deal protocol m after .reply)
+  unfolding deal
+  gpos-sends before after g cut e =
+      let m = memoryBehind (b .memory) before in
+      start-dealt .0 ∙ ap (λ (ks : List (Token Event)). deal protocol (b .memory) ks .reply) cut
+      ∙ ap (λ (y : Said Order Memory). y .reply) (deal-append protocol before (whole g ∷ after) (b .memory))
+      ∙ ap (λ (y : Said Order Memory). deal protocol (b .memory) before .reply ++ (y .reply ++ deal protocol (y .next) after .reply)) (found m g e)
+
 -- "Flags stay set until a fresh board." (01): over any offered run, and so over one call and over one report
 pub flags-kept : {b : Board} {run : List (Item Event)} {x : Said Order Board} → Offered b run x → FlagsStay (b .memory) (x .next .memory)
 flags-kept {b} {run} h = subst (λ (y : Said Order (State Memory)). FlagsStay (b .memory) (y .next .memory)) (sym (offered-state h)) (flags-stay run (stateOf b))
@@ -232,21 +284,25 @@ module _ (b : Board) (t x : ℕ) (sound : soundBoard b ≡ true) where
       (_, next b _ run (byte t x ∷ run) _ y (called (receive-some b t (x ∷ []) room)) h front)
 
 -- one report, which a sound board hears
-tells-some : (e : Event) (b : Board) → soundBoard b ≡ true → (after : Board) × Tells b e 0 after × (soundBoard after ≡ true)
-tells-some (clock now) b h =
+tells-some : (e : Event) (b : Board) → SoundEvent e → soundBoard b ≡ true → (after : Board) × Tells b e 0 after × (soundBoard after ≡ true)
+tells-some (position p) b in-range h =
+    let got = place-some b p in
+    let zero : drive.reported b p .number ≡ 0 = place-numbered got ∙ rw (h, in-range) in
+    (drive.reported b p .board, subst (λ (n : ℕ). Tells b (position p) n (drive.reported b p .board)) zero (place got), place-keeps-sound got h)
+tells-some (clock now) b _ h =
     let got = report-some b now in
     (reported b now .board, subst (λ (n : ℕ). Tells b (clock now) n (reported b now .board)) (refusal-none b h) (time got), report-keeps-sound got h)
 
--- Demand 3 speaks of every run: "With a piece that is not empty, an accepted call takes at least one byte", and a sound board hears each report, so
--- each run can be offered to its end
-pub offerable : (run : List (Item Event)) (b : Board) → soundBoard b ≡ true → (x : Said Order Board) × Offered b run x
-offerable [] b h = (quiet b, done b)
-offerable (byte t x ∷ run) b h =
-    let rest = offerable run (answer b (one b t x h) .board) (keeps-sound (receive-some b t (x ∷ []) (room b t x h)) h) in
+-- Demand 3 speaks of every run: "With a piece that is not empty, an accepted call takes at least one byte", and a sound board hears each report (one of
+-- microsteps outside -255..255 is no event), so each run can be offered to its end
+pub offerable : (run : List (Item Event)) → EventsOf SoundEvent run → (b : Board) → soundBoard b ≡ true → (x : Said Order Board) × Offered b run x
+offerable [] es b h = (quiet b, done b)
+offerable (byte t x ∷ run) es b h =
+    let rest = offerable run es (answer b (one b t x h) .board) (keeps-sound (receive-some b t (x ∷ []) (room b t x h)) h) in
     one-more b t x h run (rest .0) (rest .1)
-offerable (event e ∷ run) b h =
-    let got = tells-some e b h in
-    let rest = offerable run (got .0) (got .2) in
+offerable (event e ∷ run) es b h =
+    let got = tells-some e b (es .0) h in
+    let rest = offerable run (es .1) (got .0) (got .2) in
     (_, next b _ run (event e ∷ run) _ (rest .0) (told (got .1)) (rest .1) refl)
 
 -- a call that stops, then a report, then the untaken rest of its piece: offered as they came, one cutting of the run that has them in that order

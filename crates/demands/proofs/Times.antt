@@ -5,7 +5,7 @@ use mathlib.Core.List.{List}
 use lib.ListN.{take}
 use Rattle.rule.specs.Framing.{Token, Cut}
 use Rattle.rule.specs.Rule.{Said, State, wholeRun}
-use Rattle.rule.specs.TrueTime.{Timed, stamped, Watched, Waited}
+use Rattle.rule.specs.TrueTime.{Entry, stamped, Watched, Waited}
 use Rattle.names.specs.declared.Order.{Order}
 use Rattle.unit.specs.Unit.{Event, clock}
 use Rattle.unit.specs.Protocol.{protocol}
@@ -16,7 +16,7 @@ use Rattle.demands.specs.Runs.{Offered}
 use Rattle.demands.specs.Times.{OnTime}
 use Rattle.demands.proofs.Runs.{any-cutting}
 
-module _ {b : Board} (idle : b .count ≡ 0) (run : List Timed) where
+module _ {b : Board} (idle : b .count ≡ 0) (run : List (Entry (protocol .cuts))) where
   -- in any cutting, if the main loop does its part
   pub on-time : Watched clock (protocol .cuts) (protocol .need) run → {x : Said Order Board} → Offered b (stamped clock run) x → OnTime b run x
   unfolding wholeRun

@@ -35,6 +35,10 @@ onBoard w = record { reply = w .reply; orders = w .orders; next = boardOf (w .ne
 abbrev pub heard : ℕ → Event → List (Item Event)
 heard number e = cond (eqb number 0) (event e ∷ []) []
 
+-- what a board holds unfinished, at its last stamp, and behind it the run
+abbrev pub started : Board → List (Item Event) → List (Item Event)
+started b run = at (b .stamp) (take (b .count) (b .held)) ++ run
+
 -- what the rule finds in a run, in sequence: units, what a wait dropped, and events
 abbrev pub tokensOf : List (Item Event) → List (Token Event)
 tokensOf run = unitsOf (protocol .cuts) (protocol .need) run .tokens

@@ -7,22 +7,22 @@ use mir.ValLaws.{ofZ-fits, toZ-ofZ}
 use Rattle.wire.proofs.Laid.{Room, room-listed, room-at}
 use Rattle.sheet.specs.Sheet.{edsRow}
 use Rattle.sheet.specs.Rows.{widths, values}
-use Rattle.sheet.proofs.Codec.{Codec, always, signed16, signed32, held16, held32}
+use Rattle.sheet.proofs.Codec.{Codec, always, signed-back, signed-held}
 use Rattle.eds.specs.declared.Eds.{Eds}
 use Rattle.eds.specs.Eds.{edsOf, edsNumbers, EdsHeld}
 
 eds-back : (ns : List ℕ) → Room (widths edsRow) ns → edsNumbers (edsOf ns) ≡ ns
-eds-back ns h = rw (signed32 (widths edsRow) ns 2 refl h, signed16 (widths edsRow) ns 3 refl h, signed32 (widths edsRow) ns 4 refl h, signed16 (widths edsRow) ns 5 refl h) (room-listed (widths edsRow) ns h)
+eds-back ns h = rw (signed-back w32 (widths edsRow) ns 2 refl h, signed-back w16 (widths edsRow) ns 3 refl h, signed-back w32 (widths edsRow) ns 4 refl h, signed-back w16 (widths edsRow) ns 5 refl h) (room-listed (widths edsRow) ns h)
 
 eds-held : (ns : List ℕ) → Room (widths edsRow) ns → EdsHeld (edsOf ns)
 eds-held ns h =
     record {
       borderFlags = room-at (widths edsRow) ns 0 h;
       enderFlags = room-at (widths edsRow) ns 1 h;
-      leftBorder = held32 (widths edsRow) ns 2 refl h;
-      uLeftBorder = held16 (widths edsRow) ns 3 refl h;
-      rightBorder = held32 (widths edsRow) ns 4 refl h;
-      uRightBorder = held16 (widths edsRow) ns 5 refl h;
+      leftBorder = signed-held w32 (widths edsRow) ns 2 refl h;
+      uLeftBorder = signed-held w16 (widths edsRow) ns 3 refl h;
+      rightBorder = signed-held w32 (widths edsRow) ns 4 refl h;
+      uRightBorder = signed-held w16 (widths edsRow) ns 5 refl h;
     }
 
 pub eds-codec : Codec edsRow Eds edsOf edsNumbers EdsHeld

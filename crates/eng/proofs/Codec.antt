@@ -7,12 +7,12 @@ use mir.ValLaws.{ofZ-fits, toZ-ofZ}
 use Rattle.wire.proofs.Laid.{Room, room-listed, room-at}
 use Rattle.sheet.specs.Sheet.{engRow}
 use Rattle.sheet.specs.Rows.{widths, values}
-use Rattle.sheet.proofs.Codec.{Codec, always, signed16, held16}
+use Rattle.sheet.proofs.Codec.{Codec, always, signed-back, signed-held}
 use Rattle.eng.specs.declared.Eng.{Eng}
 use Rattle.eng.specs.Eng.{engOf, engNumbers, EngHeld}
 
 eng-back : (ns : List ℕ) → Room (widths engRow) ns → engNumbers (engOf ns) ≡ ns
-eng-back ns h = rw (signed16 (widths engRow) ns 5 refl h) (room-listed (widths engRow) ns h)
+eng-back ns h = rw (signed-back w16 (widths engRow) ns 5 refl h) (room-listed (widths engRow) ns h)
 
 eng-held : (ns : List ℕ) → Room (widths engRow) ns → EngHeld (engOf ns)
 eng-held ns h =
@@ -22,7 +22,7 @@ eng-held ns h =
       nomSpeed = room-at (widths engRow) ns 2 h;
       uNomSpeed = room-at (widths engRow) ns 3 h;
       engineFlags = room-at (widths engRow) ns 4 h;
-      antiplay = held16 (widths engRow) ns 5 refl h;
+      antiplay = signed-held w16 (widths engRow) ns 5 refl h;
       microstepMode = room-at (widths engRow) ns 6 h;
       stepsPerRev = room-at (widths engRow) ns 7 h;
     }

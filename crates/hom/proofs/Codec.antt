@@ -7,12 +7,12 @@ use mir.ValLaws.{ofZ-fits, toZ-ofZ}
 use Rattle.wire.proofs.Laid.{Room, room-listed, room-at}
 use Rattle.sheet.specs.Sheet.{homRow}
 use Rattle.sheet.specs.Rows.{widths, values}
-use Rattle.sheet.proofs.Codec.{Codec, always, signed16, signed32, held16, held32}
+use Rattle.sheet.proofs.Codec.{Codec, always, signed-back, signed-held}
 use Rattle.hom.specs.declared.Hom.{Hom}
 use Rattle.hom.specs.Hom.{homOf, homNumbers, HomHeld}
 
 hom-back : (ns : List ℕ) → Room (widths homRow) ns → homNumbers (homOf ns) ≡ ns
-hom-back ns h = rw (signed32 (widths homRow) ns 4 refl h, signed16 (widths homRow) ns 5 refl h) (room-listed (widths homRow) ns h)
+hom-back ns h = rw (signed-back w32 (widths homRow) ns 4 refl h, signed-back w16 (widths homRow) ns 5 refl h) (room-listed (widths homRow) ns h)
 
 hom-held : (ns : List ℕ) → Room (widths homRow) ns → HomHeld (homOf ns)
 hom-held ns h =
@@ -21,8 +21,8 @@ hom-held ns h =
       uFastHome = room-at (widths homRow) ns 1 h;
       slowHome = room-at (widths homRow) ns 2 h;
       uSlowHome = room-at (widths homRow) ns 3 h;
-      homeDelta = held32 (widths homRow) ns 4 refl h;
-      uHomeDelta = held16 (widths homRow) ns 5 refl h;
+      homeDelta = signed-held w32 (widths homRow) ns 4 refl h;
+      uHomeDelta = signed-held w16 (widths homRow) ns 5 refl h;
       homeFlags = room-at (widths homRow) ns 6 h;
     }
 

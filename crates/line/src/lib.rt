@@ -64,7 +64,7 @@ pub fn take_units(memory: Memory, line: &[u8], stamp: u32, reply: &mut [u8]) -> 
             return over(cur, Order::Nothing, stamp, line, i, i + n - 1, w);
         }
         let e = i + n;
-        let judged = unit::answer(cur, kind, &line[i..e], &mut reply[w..]);
+        let judged = act::answer(cur, kind, &line[i..e], &mut reply[w..]);
         let next = judged.memory;
         cur = next;
         i = e;

@@ -1,29 +1,30 @@
--- Requests as one run of bytes on the line, each byte behind its own stamp, offered in any cutting, and the time reported in between: what is read
--- back is the same, and so is what the board holds at the end. Assumes nothing.
+-- Requests as one run of bytes on the line, each byte behind its own stamp, offered in any cutting, and time and position reported in between: what is
+-- read back is the same, and so is what the board holds at the end. Assumes nothing.
 use mathlib.Core.Path.{_≡_, refl, sym, ap, subst, _∙_}
-use mathlib.Core.List.{List, [], _∷_, _++_}
+use mathlib.Core.List.{List, [], _∷_, _++_, map}
 use Prim.Native.Nat.{ℕ, zero, suc, _-_}
 use native.Mathlib.Omega.{arith}
-use lib.ListN.{length, take, replicate, length-replicate}
+use lib.ListN.{length, getD, take, drop, replicate, length-replicate}
 use Rattle.sheet.specs.Lengths.{longestFrame}
 use Rattle.settings.specs.Settings.{freshSettings}
-use Rattle.rule.specs.Run.{Item, lastStamp}
-use Rattle.rule.specs.Framing.{whole}
-use Rattle.rule.specs.Rule.{Said, then, State, with-line, stateAt}
-use Rattle.rule.specs.Step.{steps}
+use Rattle.rule.specs.Run.{Item, byte, event, lastStamp}
+use Rattle.rule.specs.Framing.{Token, whole, lost, seen}
+use Rattle.rule.specs.Rule.{Said, then, State, with-line, stateAt, Protocol, deal}
+use Rattle.rule.specs.Step.{Fed, feeds, step, steps}
 use Rattle.rule.specs.Facts.{InTime, spread}
 use Rattle.rule.proofs.Waits.{late-self}
-use Rattle.rule.proofs.Steps.{steps-append}
+use Rattle.rule.proofs.Steps.{event-step, steps-append, steps-feeds}
 use Rattle.rule.proofs.Spread.{steps-in-time}
 use Rattle.names.specs.declared.Order.{Order}
 use Rattle.names.proofs.Need.{need-law}
-use Rattle.unit.specs.Unit.{Event, act}
+use Rattle.unit.specs.Unit.{Event, clock, position, stands, act}
 use Rattle.unit.specs.Protocol.{protocol, freshState}
 use Rattle.unit.specs.declared.Memory.{Memory}
+use Rattle.unit.specs.declared.Notes.{Notes}
 use Rattle.state.specs.State.{boardOf}
 use Rattle.state.specs.declared.Board.{Board}
 use Rattle.state.proofs.fresh.Reads as fresh
-use Rattle.clock.specs.Timely.{NoneOverdue, onlyBytes}
+use Rattle.clock.specs.Timely.{NoneOverdue, withoutClock}
 use Rattle.clock.proofs.Clock.{none-overdue}
 use Rattle.demands.specs.Runs.{onBoard, Offered}
 use Rattle.demands.proofs.Runs.{offered-steps}
@@ -34,52 +35,95 @@ use Rattle.answer.specs.declared.Reading.{Reading}
 use Rattle.link.specs.Book.{Book, bookOf, noted, notedAll, answersTo, ordersOf, repliesTo}
 use Rattle.link.specs.Types.{TypedAll, TypedBoard}
 use Rattle.link.specs.Asking.{Sendable, ReadOff, AnswerForAnswer}
-use Rattle.link.specs.Sending.{Sent, runOf, requestsOf}
+use Rattle.link.specs.Sending.{Sent, onlyBytes, runOf, requestsOf}
 use Rattle.link.proofs.Requests.{frame-least, frame-most, frame-whole, acts}
 use Rattle.link.proofs.Types.{fresh-typed}
 use Rattle.link.proofs.Sessions.{good-is, length-is, frame-is, bound, replies-read, write-good}
 
--- what is said of requests one after the other, and what they leave
-record Answered (m : Memory) (qs : List Request) (w : Said Order (State Memory)) : Type 0 where
-  replies : w .reply ≡ repliesTo (bookOf (m .settings)) qs
-  orders : w .orders ≡ ordersOf qs
-  blocks : (c : Block) → bookOf (w .next .memory .settings) c ≡ notedAll (bookOf (m .settings)) qs c
-  notes : w .next .memory .notes ≡ m .notes
+-- ---- the units of a run
+
+-- the same framing with no memory, to see the units: each whole one is given as it stands
+abbrev framer : Protocol Event (List ℕ) (Unit {0})
+framer = record { cuts = protocol .cuts; need = protocol .need; act = λ _ k. record { reply = []; orders = given k; next = tt }; longestPiece = 0; leastRoom = 0 }
+  where
+    given : Token Event → List (List ℕ)
+    given (whole u) = u ∷ []
+    given (lost u) = []
+    given (seen e) = []
+
+-- reports of the position part no unit, wherever they come
+positions-aside : (r : List (Item Event)) (s : State (Unit {0})) → steps framer s (withoutClock r) ≡ steps framer s (onlyBytes r)
+unfolding steps
+positions-aside [] s = refl
+positions-aside (byte t b ∷ r) s =
+    let a = step framer s (byte t b) in
+    ap (then a) (positions-aside r (a .next))
+positions-aside (event (clock now) ∷ r) s = positions-aside r s
+positions-aside (event (position p) ∷ r) s = rw (event-step framer s (position p) refl) (positions-aside r s)
+
+-- the units seen are the frames of these requests, and nothing stays unfinished
+record Frames (qs : List Request) (w : Said (List ℕ) (State (Unit {0}))) : Type 0 where
+  units : w .orders ≡ map frameOf qs
   idle : w .next .line .unfinished ≡ []
 
-run-answered : (xs : List Sent) (m : Memory) (t : ℕ) → Answered m (requestsOf xs) (steps protocol (stateAt m [] t) (runOf xs))
+frames : (xs : List Sent) (t : ℕ) → Frames (requestsOf xs) (steps framer (stateAt tt [] t) (runOf xs))
 unfolding steps
-run-answered [] m t = record { replies = refl; orders = refl; blocks = λ c. refl; notes = refl; idle = refl }
-run-answered (x ∷ xs) m t =
+frames [] t = record { units = refl; idle = refl }
+frames (x ∷ xs) t =
     let q = x .request in
-    let qs = requestsOf xs in
     let u = frameOf q in
     let is : take (x .size) (x .out) ≡ u = frame-is (x .written) in
-    let done = acts m q (x .typed) (good-is (x .written)) in
-    let n = act m (whole u) .next in
     let stamps = x .first ∷ x .others in
     let last = lastStamp t (spread stamps u) in
-    let ih = run-answered xs n last in
-    let all : steps protocol (stateAt m [] t) (runOf (x ∷ xs)) ≡ then (with-line (record { unfinished = []; last = last }) (act m (whole u))) (steps protocol (stateAt (act m (whole u) .next) [] last) (runOf xs)) =
-    steps-append protocol (spread stamps (take (x .size) (x .out))) (runOf xs) (stateAt m [] t)
-    ∙ ap (λ (y : Said Order (State Memory)). then y (steps protocol (y .next) (runOf xs)))
-    (ap (λ (v : List ℕ). steps protocol (stateAt m [] t) (spread stamps v)) is
-    ∙ steps-in-time protocol need-law m t (x .first) (x .others) u (sym (length-is (x .written)) ∙ x .each) (x .inTime) (frame-whole q)) in
+    let ih = frames xs last in
+    let all : steps framer (stateAt tt [] t) (runOf (x ∷ xs)) ≡ then (with-line (record { unfinished = []; last = last }) (framer .act tt (whole u))) (steps framer (stateAt tt [] last) (runOf xs)) =
+    steps-append framer (spread stamps (take (x .size) (x .out))) (runOf xs) (stateAt tt [] t)
+    ∙ ap (λ (y : Said (List ℕ) (State (Unit {0}))). then y (steps framer (y .next) (runOf xs)))
+    (ap (λ (v : List ℕ). steps framer (stateAt tt [] t) (spread stamps v)) is
+    ∙ steps-in-time framer need-law tt t (x .first) (x .others) u (sym (length-is (x .written)) ∙ x .each) (x .inTime) (frame-whole q)) in
+    rw all (record { units = ap (λ (us : List (List ℕ)). u ∷ us) (ih .units); idle = ih .idle })
+
+-- ---- what the memory makes of them
+
+-- what is said of requests one after the other, from this book and these notes, and what they leave
+record Answered (book : Book) (notes : Notes) (qs : List Request) (w : Said Order Memory) : Type 0 where
+  replies : w .reply ≡ repliesTo book qs
+  orders : w .orders ≡ ordersOf qs
+  blocks : (c : Block) → bookOf (w .next .settings) c ≡ notedAll book qs c
+  kept : w .next .notes ≡ notes
+
+-- wherever the position stands: what comes between the frames says nothing and alters neither settings nor notes
+units-answered : (ks : List (Token Event)) (xs : List Sent) (m : Memory) → deal framer tt ks .orders ≡ map frameOf (requestsOf xs)
+    → Answered (bookOf (m .settings)) (m .notes) (requestsOf xs) (deal protocol m ks)
+unfolding deal act
+units-answered [] [] m e = record { replies = refl; orders = refl; blocks = λ c. refl; kept = refl }
+units-answered [] (x ∷ xs) m e = absurd (omega (arith, ap length e))
+units-answered (lost u ∷ ks) xs m e = units-answered ks xs m e
+units-answered (seen (clock now) ∷ ks) xs m e = units-answered ks xs m e
+units-answered (seen (position p) ∷ ks) xs m e = units-answered ks xs (stands m p) e
+units-answered (whole u ∷ ks) [] m e = absurd (omega (arith, ap length e))
+units-answered (whole u ∷ ks) (x ∷ xs) m e =
+    let q = x .request in
+    let qs = requestsOf xs in
+    let is : u ≡ frameOf q = ap (λ (us : List (List ℕ)). getD us 0 []) e in
+    let done = acts m q (x .typed) (good-is (x .written)) in
+    let n = act m (whole (frameOf q)) .next in
+    let ih = units-answered ks xs n (ap (drop 1) e) in
     let next : bookOf (n .settings) ≡ noted (bookOf (m .settings)) q = λ i c. done .blocks c i in
-    record {
-      replies = ap (λ (y : Said Order (State Memory)). y .reply) all ∙ (λ i. done .reply i ++ (ih .replies ∙ ap (λ (k : Book). repliesTo k qs) next) i);
-      orders = ap (λ (y : Said Order (State Memory)). y .orders) all ∙ (λ i. done .orders i ++ ih .orders i);
-      blocks = λ c. ap (λ (y : Said Order (State Memory)). bookOf (y .next .memory .settings) c) all ∙ ih .blocks c ∙ ap (λ (k : Book). notedAll k qs c) next;
-      notes = ap (λ (y : Said Order (State Memory)). y .next .memory .notes) all ∙ ih .notes ∙ done .notes;
-      idle = ap (λ (y : Said Order (State Memory)). y .next .line .unfinished) all ∙ ih .idle;
-    }
+    subst (λ (v : List ℕ). Answered (bookOf (m .settings)) (m .notes) (q ∷ qs) (deal protocol m (whole v ∷ ks))) (sym is)
+    (record {
+      replies = λ i. done .reply i ++ (ih .replies ∙ ap (λ (k : Book). repliesTo k qs) next) i;
+      orders = λ i. done .orders i ++ ih .orders i;
+      blocks = λ c. ih .blocks c ∙ ap (λ (k : Book). notedAll k qs c) next;
+      kept = ih .kept ∙ done .notes;
+    })
 
 sent-typed : (xs : List Sent) → TypedAll (requestsOf xs)
 sent-typed [] = tt
 sent-typed (x ∷ xs) = (x .typed, sent-typed xs)
 
--- a board with nothing unfinished, as a fresh board is and as each call leaves it that ends a unit; the run has what was written, and reports of the
--- time that are not overdue where they come
+-- a board with nothing unfinished, as a fresh board is and as each call leaves it that ends a unit; the run has what was written, reports of the
+-- time that are not overdue where they come, and reports of the position anywhere, inside a frame too
 module _ {b : Board} {m : Memory} {t : ℕ} (is : b ≡ boardOf (stateAt m [] t)) (xs : List Sent)
     {run : List (Item Event)} (sent : onlyBytes run ≡ runOf xs) (timely : NoneOverdue (stateAt m [] t) run) {x : Said Order Board} (offered : Offered b run x) where
   abbrev qs : List Request
@@ -88,11 +132,20 @@ module _ {b : Board} {m : Memory} {t : ℕ} (is : b ≡ boardOf (stateAt m [] t)
   abbrev book : Book
   book = bookOf (b .memory .settings)
 
-  done : Answered m qs (steps protocol (stateAt m [] t) run)
-  done = rw (none-overdue run (stateAt m [] t) timely, sent) (run-answered xs m t)
+  -- what the run falls into, without its reports of the time
+  abbrev f : Fed Event
+  f = feeds (protocol .cuts) (protocol .need) (record { unfinished = []; last = t }) (withoutClock run)
 
-  says : x ≡ onBoard (steps protocol (stateAt m [] t) run)
-  says = offered-steps offered (stateAt m [] t) is
+  framed : Frames qs (with-line (f .line) (deal framer tt (f .tokens)))
+  framed =
+      subst (Frames qs) (ap (steps framer (stateAt tt [] t)) (sym sent) ∙ sym (positions-aside run (stateAt tt [] t)) ∙ steps-feeds framer (withoutClock run) (stateAt tt [] t))
+      (frames xs t)
+
+  done : Answered (bookOf (m .settings)) (m .notes) qs (deal protocol m (f .tokens))
+  done = units-answered (f .tokens) xs m (framed .units)
+
+  says : x ≡ onBoard (with-line (f .line) (deal protocol m (f .tokens)))
+  says = offered-steps offered (stateAt m [] t) is ∙ ap onBoard (none-overdue run (stateAt m [] t) timely ∙ steps-feeds protocol (withoutClock run) (stateAt m [] t))
 
   same-book : bookOf (m .settings) ≡ book
   same-book = ap (λ (y : Board). bookOf (y .memory .settings)) (sym is)
@@ -108,10 +161,10 @@ module _ {b : Board} {m : Memory} {t : ℕ} (is : b ≡ boardOf (stateAt m [] t)
 
   -- flags and last refused field stay, and nothing is unfinished
   pub cut-notes : x .next .memory .notes ≡ b .memory .notes
-  cut-notes = ap (λ (y : Said Order Board). y .next .memory .notes) says ∙ done .notes ∙ ap (λ (y : Board). y .memory .notes) (sym is)
+  cut-notes = ap (λ (y : Said Order Board). y .next .memory .notes) says ∙ done .kept ∙ ap (λ (y : Board). y .memory .notes) (sym is)
 
   pub cut-idle : x .next .count ≡ 0
-  cut-idle = ap (λ (y : Said Order Board). y .next .count) says ∙ ap length (done .idle)
+  cut-idle = ap (λ (y : Said Order Board). y .next .count) says ∙ ap length (framed .idle)
 
   -- the joined replies are read back, answer for answer, to the last byte
   pub cut-read : TypedBoard b → {rs : List Reading} {rest : List ℕ} → ReadOff (x .reply) rs rest → length rs ≡ length qs

@@ -27,9 +27,9 @@ use Rattle.names.specs.declared.Kind.{Kind}
 use Rattle.names.specs.declared.Kind.the-variants as kind
 use Rattle.names.proofs.Lengths.{set-total}
 use Rattle.names.proofs.Need.{kind-named, need-span}
-use Rattle.unit.specs.Unit.{outOfRange, act, does}
+use Rattle.unit.specs.Unit.{outOfRange, act, puts, does}
 use Rattle.unit.specs.declared.Memory.{Memory}
-use Rattle.unit.proofs.Sets.{puts-refused}
+use Rattle.unit.proofs.Sets.{checked-refused}
 use Rattle.unit.proofs.Replies.{act-kind}
 use Rattle.unit.specs.Kept.{Accepts, getReply}
 use Rattle.unit.proofs.Kept.{accepted}
@@ -192,10 +192,10 @@ module _ (m : Memory) (f : Fields) (typed : Typed f) where
 
   -- "refuses what the board would refuse", and nothing else: a set that the writer answers 3 to, the board would answer errv to, at the same field
   pub would-refuse : (firstBadOf f ≡ 0 → ⊥) → act m (whole (setFrame f)) ≡ outOfRange m k (firstBadOf f)
-  unfolding does
+  unfolding does puts
   would-refuse bad =
       act-kind m (setFrame f) (kind.Set k) (frame-kind (Set f))
-      ∙ puts-refused m k (setFrame f) intact-frame (λ z. bad (sym judged ∙ z))
+      ∙ checked-refused m (setFrame f) k _ _ intact-frame (λ z. bad (sym judged ∙ z))
       ∙ ap (outOfRange m k) judged
 
 -- ---- WHAT THE BOARD DOES WITH A REQUEST'S FRAME

@@ -26,7 +26,7 @@ use Rattle.rule.proofs.Bytes.{bytes-append, bytes-at}
 use Rattle.rule.proofs.Whole.{part-bytes}
 use Rattle.rule.proofs.OfBytes.{front-bytes, behind-bytes, bytes-keep, bytes-stay}
 use Rattle.names.specs.declared.Order.{Order}
-use Rattle.unit.specs.Unit.{Event, act}
+use Rattle.unit.specs.Unit.{Event, clock, position, act}
 use Rattle.unit.specs.Protocol.{protocol, freshState}
 use Rattle.unit.specs.declared.Memory.{Memory}
 use Rattle.unit.specs.Kept.{Ends, stores, keeps}
@@ -38,10 +38,13 @@ use Rattle.state.specs.declared.Call.{Call}
 use Rattle.state.proofs.Boards.{state-board}
 use Rattle.state.proofs.fresh.Reads as state-fresh
 use Rattle.clock.specs.Clock.{overdue, dropped}
-use Rattle.clock.specs.declared.Report.{Report}
+use Rattle.drive.specs.Report.{positionRefusal}
+use Rattle.position.specs.declared.Position.{Position}
+use Rattle.demands.proofs.Positions.{place-promise}
+use Rattle.state.specs.declared.Report.{Report}
 use Rattle.demands.specs.Calls.{Answers}
 use Rattle.demands.proofs.Calls.{is-taken, is-state}
-use Rattle.demands.specs.Reports.{Reports, time}
+use Rattle.demands.specs.Reports.{Reports, Locates, time, place}
 use Rattle.demands.proofs.Reports.{report-promise}
 use Rattle.demands.specs.Runs.{Step, called, told, Offered, done, next}
 use Rattle.host.specs.Names.{rowOf, blockNumber}
@@ -79,7 +82,8 @@ act-typed m (whole u) low h = by (unit-ends m u)
         (put-typed (m .settings) k (dataIn u) (part-bytes u (length u - 6) 4 low) h)
     by (keeps e) = subst (λ (s : Settings). TypedBook (bookOf s)) (sym e) h
 act-typed m (lost u) low h = h
-act-typed m (seen e) low h = h
+act-typed m (seen (clock now)) low h = h
+act-typed m (seen (position p)) low h = h
 
 steps-typed : (r : List (Item Event)) (s : State Memory) → OfBytes (bytes r) → TypedState s → TypedState (steps protocol s r .next)
 steps-typed r s low h =
@@ -120,9 +124,15 @@ report-typed {b} {now} {r} got h =
     (either TypedBoard (eqb (refusalOf b) 0) _ _
     (either TypedBoard (overdue (stateOf b) now) _ _ (subst TypedState (sym (state-board (dropped (stateOf b)))) empty) h) h)
 
+pub place-typed : {b : Board} {p : Position} {r : Report} → Locates b p r → TypedBoard b → TypedBoard (r .board)
+place-typed {b} {p} got h =
+    subst (λ (y : Report). TypedBoard (y .board)) (sym (place-promise got))
+    (either TypedBoard (eqb (positionRefusal b p) 0) _ _ (record { fields = h .fields; bytes = h .bytes }) h)
+
 step-typed : {b : Board} {items : List (Item Event)} {y : Said Order Board} → Step b items y → OfBytes (bytes items) → TypedBoard b → TypedBoard (y .next)
 step-typed (called {t = t} {p = p} {r = r} got) low h = call-typed got (subst OfBytes (bytes-at Event t (take (r .taken) p)) low) h
 step-typed (told (time got)) low h = report-typed got h
+step-typed (told (place got)) low h = place-typed got h
 
 -- so over any run, in any cutting
 pub run-typed : {b : Board} {run : List (Item Event)} {x : Said Order Board} → Offered b run x → OfBytes (bytes run) → TypedBoard b → TypedBoard (x .next)

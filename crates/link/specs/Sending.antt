@@ -3,7 +3,7 @@ use mathlib.Core.Path.{_≡_}
 use mathlib.Core.List.{List, [], _∷_, _++_}
 use Prim.Native.Nat.{ℕ, suc}
 use lib.ListN.{length, take}
-use Rattle.rule.specs.Run.{Item}
+use Rattle.rule.specs.Run.{Item, byte, event}
 use Rattle.rule.specs.Facts.{InTime, spread}
 use Rattle.unit.specs.Unit.{Event}
 use Rattle.request.specs.declared.Request.{Request}
@@ -24,6 +24,12 @@ pub record Sent : Type 0 where
   pub others : List ℕ
   pub each : size ≡ suc (length others)
   pub inTime : InTime first others
+
+-- a run without its reports of the time and of the position
+abbrev pub onlyBytes : List (Item Event) → List (Item Event)
+onlyBytes [] = []
+onlyBytes (byte t b ∷ r) = byte t b ∷ onlyBytes r
+onlyBytes (event e ∷ r) = onlyBytes r
 
 -- what was written, each byte behind its stamp, request after request
 abbrev pub runOf : List Sent → List (Item Event)

@@ -7,30 +7,35 @@ use mathlib.Core.List.{List, [], _∷_, _++_, map, map-append}
 use lib.Dec.{eqb}
 use lib.ListN.{length, take}
 use Rattle.rule.specs.Run.{Item, at}
-use Rattle.rule.specs.Rule.{Said, quiet, then, wholeRun}
+use Rattle.rule.specs.Framing.{Token, whole}
+use Rattle.rule.specs.Rule.{Said, quiet, then, deal, wholeRun}
 use Rattle.rule.specs.Calls.{call}
-use Rattle.names.specs.Names.{orderNumber, given}
+use Rattle.position.specs.declared.Position.{Position}
+use Rattle.names.specs.Names.{orderNumber, given, kindAt}
+use Rattle.names.specs.declared.Kind.the-variants.{Finds}
 use Rattle.names.specs.declared.Order.{Order}
 use Rattle.unit.specs.Unit.{Event, freshMemory}
 use Rattle.unit.specs.Protocol.{protocol}
+use Rattle.unit.specs.Touched.{stepsPart, microstepsPart, countPart, standsAt, positionReply}
 use Rattle.state.specs.State.{stateOf}
-use Rattle.state.specs.Sound.{refusalOf}
+use Rattle.state.specs.Sound.{soundBoard, refusalOf}
 use Rattle.state.specs.Returned.{Returned}
 use Rattle.state.specs.declared.Board.{Board}
 use Rattle.state.specs.declared.Call.{Call}
-use Rattle.clock.specs.declared.Report.{Report}
+use Rattle.state.specs.declared.Report.{Report}
 use Rattle.receiver.specs.Receive.{answer}
 use Rattle.demands.specs.Calls.{Answers}
 use Rattle.demands.specs.Reports as reports
 use Rattle.demands.specs.Reports.{Reports}
 use Rattle.demands.specs.Runs as runs
-use Rattle.demands.specs.Runs.{onBoard, done, next}
+use Rattle.demands.specs.Runs.{inState, onBoard, started, tokensOf, memoryBehind, done, next}
 use Rattle.demands.proofs.Calls.{promise, refTo, receive-some}
 use Rattle.demands.proofs.Reports.{report-promise, report-some}
-use Rattle.demands.proofs.Runs.{from-fresh}
+use Rattle.demands.proofs.Positions.{place-promise, place-some}
+use Rattle.demands.proofs.Runs.{from-fresh, any-start, position-steps, position-microsteps, position-count, gpos-sends}
 use Rattle.board.specs.Answer.{flat}
 use Rattle.board.specs.declared.Answer.{Answer}
-use Rattle.linked.specs.Board.{Starts, Receives, Hears, allowed, time, saidBy, numbered, Step, called, told, Offered}
+use Rattle.linked.specs.Board.{Starts, Receives, Hears, Locates, allowed, time, place, OrderSeen, orderSeen, saidBy, numbered, Step, called, told, Offered}
 
 -- ---- each export allows what the function behind it allows, and nothing else
 
@@ -59,27 +64,35 @@ module _ {b : Board} {time : ℕ} {r : Report} where
   pub hears-all : Reports b time r → Hears b time r
   hears-all got = allowed tt (b, (time, tt)) (b, (time, tt)) (report-promise got) refl refl
 
+module _ {b : Board} {p : Position} {r : Report} where
+  pub locates : Locates b p r → reports.Locates b p r
+  locates (allowed κs a s got e f) = subst (reports.Locates b p) (sym (rw (← e, ← f) got)) (place-some b p)
+
+  pub locates-all : reports.Locates b p r → Locates b p r
+  locates-all got = allowed tt (b, (p, tt)) (b, (p, tt)) (place-promise got) refl refl
+
 -- ---- a run
 
-pub given-numbers : (o : Order) → map orderNumber (given o) ≡ cond (eqb (orderNumber o) 0) [] (orderNumber o ∷ [])
-given-numbers o = by (eqb (orderNumber o) 0)
+pub given-seen : (o : Order) → map orderSeen (given o) ≡ cond (eqb (orderNumber o) 0) [] (orderSeen o ∷ [])
+given-seen o = by (eqb (orderNumber o) 0)
   where
-    by : (y : Bool) → map orderNumber (cond y [] (o ∷ [])) ≡ cond y [] (orderNumber o ∷ [])
+    by : (y : Bool) → map orderSeen (cond y [] (o ∷ [])) ≡ cond y [] (orderSeen o ∷ [])
     by true = refl
     by false = refl
 
--- a step by the exports is a step, with 01's numbers for the orders
-step-is : {b : Board} {items : List (Item Event)} {x : Said ℕ Board} → Step b items x → (y : Said Order Board) × runs.Step b items y × (x ≡ numbered y)
+-- a step by the exports is a step, with the orders by their numbers and values
+step-is : {b : Board} {items : List (Item Event)} {x : Said OrderSeen Board} → Step b items x → (y : Said Order Board) × runs.Step b items y × (x ≡ numbered y)
 step-is {b} (called {t = t} {p} {before} {after} {r} got) =
     let c = receives got in
     let same : r ≡ flat (c .0) = c .2 in
     let said : saidBy r after ≡ numbered (runs.saidBy (c .0) after) =
-    ap (λ (y : Answer). saidBy y after) same ∙ (λ i. record { reply = take (c .0 .written) after; orders = sym (given-numbers (c .0 .order)) i; next = c .0 .board }) in
+    ap (λ (y : Answer). saidBy y after) same ∙ (λ i. record { reply = take (c .0 .written) after; orders = sym (given-seen (c .0 .order)) i; next = c .0 .board }) in
     (runs.saidBy (c .0) after, subst (λ (k : ℕ). runs.Step b (at t (take k p)) (runs.saidBy (c .0) after)) (ap (λ (y : Answer). y .taken) (sym same)) (runs.called (c .1)), said)
 step-is (told {next = after} (time got)) = (quiet after, runs.told (reports.time (hears got)), refl)
+step-is (told {next = after} (place got)) = (quiet after, runs.told (reports.place (locates got)), refl)
 
 -- and so is a run offered by them
-pub offered-is : {b : Board} {run : List (Item Event)} {x : Said ℕ Board} → Offered b run x → (y : Said Order Board) × runs.Offered b run y × (x ≡ numbered y)
+pub offered-is : {b : Board} {run : List (Item Event)} {x : Said OrderSeen Board} → Offered b run x → (y : Said Order Board) × runs.Offered b run y × (x ≡ numbered y)
 offered-is (done b) = (quiet b, done b, refl)
 offered-is (next b items rest run x z one more e) =
     let first = step-is one in
@@ -87,10 +100,33 @@ offered-is (next b items rest run x z one more e) =
     let y = first .0 in
     let w = behind .0 in
     let said : then x z ≡ numbered (then y w) =
-    (λ i. then (first .2 i) (behind .2 i)) ∙ (λ i. record { reply = y .reply ++ w .reply; orders = sym (map-append orderNumber (y .orders) (w .orders)) i; next = w .next }) in
-    (then y w, next b items rest run y w (first .1) (subst (λ (c : Board). runs.Offered c rest w) (ap (λ (q : Said ℕ Board). q .next) (first .2)) (behind .1)) e, said)
+    (λ i. then (first .2 i) (behind .2 i)) ∙ (λ i. record { reply = y .reply ++ w .reply; orders = sym (map-append orderSeen (y .orders) (w .orders)) i; next = w .next }) in
+    (then y w, next b items rest run y w (first .1) (subst (λ (c : Board). runs.Offered c rest w) (ap (λ (q : Said OrderSeen Board). q .next) (first .2)) (behind .1)) e, said)
 
 -- DEMAND 3, of what C and Rust link: "Once all is taken, the replies joined, the orders in sequence, the settings, flags, last refused field, unfinished
 -- bytes and last stamp are those that sheet 01's rule gives for the whole run at once."
-pub linked-cutting : {b : Board} {run : List (Item Event)} {x : Said ℕ Board} → Starts b → Offered b run x → x ≡ numbered (onBoard (wholeRun protocol freshMemory 0 run))
+pub linked-cutting : {b : Board} {run : List (Item Event)} {x : Said OrderSeen Board} → Starts b → Offered b run x → x ≡ numbered (onBoard (wholeRun protocol freshMemory 0 run))
 linked-cutting (allowed κs a s is) h = let y = offered-is h in y .2 ∙ ap numbered (from-fresh tt tt _ tt is (y .1))
+
+-- 02, P5: where the drive stands at the end of a run from any sound board, part by part; and "gpos, which sends the position as it then
+-- stands"
+module _ {b : Board} {run : List (Item Event)} {x : Said OrderSeen Board} (h : Offered b run x) (sound : soundBoard b ≡ true) where
+  abbrev y : (y : Said Order Board) × runs.Offered b run y × (x ≡ numbered y)
+  y = offered-is h
+
+  -- demand 3 from any sound start
+  pub linked-start : (z : Said Order Board) × (x ≡ numbered z) × (inState z ≡ wholeRun protocol (b .memory) (b .stamp) (started b run))
+  linked-start = (y .0, y .2, any-start (y .1) sound)
+
+  pub linked-steps : x .next .memory .position .steps ≡ standsAt stepsPart (b .memory .position) (tokensOf (started b run))
+  linked-steps = ap (λ (z : Said OrderSeen Board). z .next .memory .position .steps) (y .2) ∙ position-steps (y .1) sound
+
+  pub linked-microsteps : x .next .memory .position .microsteps ≡ standsAt microstepsPart (b .memory .position) (tokensOf (started b run))
+  linked-microsteps = ap (λ (z : Said OrderSeen Board). z .next .memory .position .microsteps) (y .2) ∙ position-microsteps (y .1) sound
+
+  pub linked-count : x .next .memory .position .count ≡ standsAt countPart (b .memory .position) (tokensOf (started b run))
+  linked-count = ap (λ (z : Said OrderSeen Board). z .next .memory .position .count) (y .2) ∙ position-count (y .1) sound
+
+  pub linked-gpos : (before after : List (Token Event)) (g : List ℕ) → tokensOf (started b run) ≡ before ++ whole g ∷ after → kindAt g ≡ Finds
+      → let m = memoryBehind (b .memory) before in x .reply ≡ deal protocol (b .memory) before .reply ++ (positionReply (m .position) ++ deal protocol m after .reply)
+  linked-gpos before after g cut e = ap (λ (z : Said OrderSeen Board). z .reply) (y .2) ∙ gpos-sends (y .1) sound before after g cut e

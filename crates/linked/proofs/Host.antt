@@ -5,7 +5,8 @@ use mathlib.Core.List.{List, [], _∷_, _++_, map, map-append}
 use native.Mathlib.Omega.{arith}
 use lib.ListN.{length, take, drop, length-map}
 use Rattle.settings.specs.Settings.{freshSettings}
-use Rattle.names.specs.Names.{orderNumber, given}
+use Rattle.position.specs.Position.{travelOf}
+use Rattle.names.specs.Names.{given}
 use Rattle.names.specs.declared.Order.{Order}
 use Rattle.state.specs.declared.Board.{Board}
 use Rattle.state.specs.declared.Call.{Call}
@@ -43,10 +44,10 @@ use Rattle.link.specs.Asking as link
 use Rattle.link.specs.Asking.{Writing, Reads, Ready, Sendable}
 use Rattle.link.proofs.Sessions.{wrote, has-read, write-some, read-some, asked-accepted, asked-orders, asked-read, asked-blocks, asked-notes, asked-ready, asked-typed-again, fresh-ready, askable, readable}
 use Rattle.link.proofs.Types.{fresh-typed}
-use Rattle.linked.specs.Board.{Starts, saidBy}
+use Rattle.linked.specs.Board.{Starts, OrderSeen, orderSeen, saidBy}
 use Rattle.linked.specs.Board as board
-use Rattle.linked.specs.Host.{WritesGet, WritesSet, WritesOrder, ReadsFlat, allowed, Asks, get, set, give, Asked, none, ask, NoRefusal, ReadOff, one, AnswerForAnswer, numbersAsked, Served}
-use Rattle.linked.proofs.Board.{receives, receives-all, given-numbers}
+use Rattle.linked.specs.Host.{WritesGet, WritesSet, WritesOrder, ReadsFlat, allowed, Asks, get, set, give, Asked, none, ask, NoRefusal, ReadOff, one, AnswerForAnswer, ordersAsked, Served}
+use Rattle.linked.proofs.Board.{receives, receives-all, given-seen}
 
 -- ---- what each contract says
 
@@ -142,11 +143,11 @@ frame-written {q} {room} {out} {r} got zero = let w = asks got in by (w .0) (w .
 
 -- ---- A SEQUENCE
 
--- asked by the functions behind the exports, with 01's numbers for the orders; where they refuse nothing, N holds
-abbrev Behind : Board → List Request → List ℕ → List ℕ → Board → Type 0 → Type 0
-Behind b qs reply orders end N = (os : List Order) × (is : link.Asked b qs reply os end) × (orders ≡ map orderNumber os) × (link.NoRefusal is → N)
+-- asked by the functions behind the exports, with the orders by their numbers and values; where they refuse nothing, N holds
+abbrev Behind : Board → List Request → List ℕ → List OrderSeen → Board → Type 0 → Type 0
+Behind b qs reply orders end N = (os : List Order) × (is : link.Asked b qs reply os end) × (orders ≡ map orderSeen os) × (link.NoRefusal is → N)
 
-pub asked-is : {b end : Board} {qs : List Request} {reply orders : List ℕ} (asked : Asked b qs reply orders end) → Behind b qs reply orders end (NoRefusal asked)
+pub asked-is : {b end : Board} {qs : List Request} {reply : List ℕ} {orders : List OrderSeen} (asked : Asked b qs reply orders end) → Behind b qs reply orders end (NoRefusal asked)
 asked-is none = ([], link.none, refl, λ h. tt)
 asked-is (ask {b} {end} {q} {w} {t} {room} {out} {before} {after} {r} {qs} {reply} {orders} typed asking zero wide got rest) =
     let c = receives got in
@@ -160,7 +161,7 @@ asked-is (ask {b} {end} {q} {w} {t} {room} {out} {before} {after} {r} {qs} {repl
     first c answers N more = (
       given (c .order) ++ more .0,
       link.ask typed (frame-written asking zero) wide answers (more .1),
-      (λ i. sym (given-numbers (c .order)) i ++ more .2 i) ∙ sym (map-append orderNumber (given (c .order)) (more .0)),
+      (λ i. sym (given-seen (c .order)) i ++ more .2 i) ∙ sym (map-append orderSeen (given (c .order)) (more .0)),
       λ h. (h .0, more .3 (h .1)),
     )
 
@@ -192,24 +193,24 @@ answers-flat (y ∷ ys) (a ∷ rest) h = (
   answers-flat ys rest (h .1),
 )
 
--- AN ORDER'S NUMBER IS ONE AT BOTH ENDS: the board gives by its number what the host asked for by its own
-pub number-given : (o : host.Order) → orderNumber (givenBy o) ≡ numberOf o
-number-given Stop = refl
-number-given Sstp = refl
-number-given Pwof = refl
-number-given Left = refl
-number-given Rigt = refl
-number-given Home = refl
-number-given Loft = refl
+-- AN ORDER'S NUMBER IS ONE AT BOTH ENDS: the board gives by its number what the host asked for by its own, with no steps
+pub order-given : (o : host.Order) → orderSeen (givenBy o) ≡ (numberOf o, travelOf [])
+order-given Stop = refl
+order-given Sstp = refl
+order-given Pwof = refl
+order-given Left = refl
+order-given Rigt = refl
+order-given Home = refl
+order-given Loft = refl
 
-asked-numbers : (qs : List Request) → map orderNumber (ordersOf qs) ≡ numbersAsked qs
-asked-numbers [] = refl
-asked-numbers (Get b ∷ qs) = asked-numbers qs
-asked-numbers (Set f ∷ qs) = asked-numbers qs
-asked-numbers (Give o ∷ qs) = λ i. number-given o i ∷ asked-numbers qs i
+asked-seen : (qs : List Request) → map orderSeen (ordersOf qs) ≡ ordersAsked qs
+asked-seen [] = refl
+asked-seen (Get b ∷ qs) = asked-seen qs
+asked-seen (Set f ∷ qs) = asked-seen qs
+asked-seen (Give o ∷ qs) = λ i. order-given o i ∷ asked-seen qs i
 
 -- THE SEQUENCE OF P1, of what C and Rust link: on any board that is ready and whose fields fit their types
-pub asked-served : {b end : Board} {qs : List Request} {reply orders : List ℕ} (asked : Asked b qs reply orders end) → Ready b → TypedBoard b
+pub asked-served : {b end : Board} {qs : List Request} {reply : List ℕ} {orders : List OrderSeen} (asked : Asked b qs reply orders end) → Ready b → TypedBoard b
     → Served (bookOf (b .memory .settings)) asked
 asked-served {b = b} {qs = qs} asked can fit =
     let x = asked-is asked in
@@ -217,7 +218,7 @@ asked-served {b = b} {qs = qs} asked can fit =
     let answers = answersTo (bookOf (b .memory .settings)) qs in
     record {
       accepted = x .3 (asked-accepted is can);
-      ordered = x .2 ∙ ap (map orderNumber) (asked-orders is can) ∙ asked-numbers qs;
+      ordered = x .2 ∙ ap (map orderSeen) (asked-orders is can) ∙ asked-seen qs;
       answered =
           λ off e.
           let y = off-is off in
@@ -230,18 +231,18 @@ asked-served {b = b} {qs = qs} asked can fit =
     }
 
 -- and on the board that they start with: nothing is asked of it
-pub fresh-served : {b end : Board} {qs : List Request} {reply orders : List ℕ} (asked : Asked b qs reply orders end) → Starts b
+pub fresh-served : {b end : Board} {qs : List Request} {reply : List ℕ} {orders : List OrderSeen} (asked : Asked b qs reply orders end) → Starts b
     → Served (bookOf freshSettings) asked
 fresh-served {b} asked (board.allowed κs a s is) =
     subst (λ (y : Board). Served (bookOf (y .memory .settings)) asked) is (asked-served asked (fresh-ready tt tt b tt is) (fresh-typed tt tt b tt is))
 
 -- ---- and what the functions behind them ask and read off, the exports do
 
-pub asked-all : {b end : Board} {qs : List Request} {reply : List ℕ} {os : List Order} → link.Asked b qs reply os end → Asked b qs reply (map orderNumber os) end
+pub asked-all : {b end : Board} {qs : List Request} {reply : List ℕ} {os : List Order} → link.Asked b qs reply os end → Asked b qs reply (map orderSeen os) end
 asked-all link.none = none
 asked-all (link.ask {b} {end} {q} {after = after} {r = r} {qs} {reply} {orders = os} typed written wide got rest) =
-    subst (λ (l : List ℕ). Asked b (q ∷ qs) (take (r .written) after ++ reply) l end)
-    ((λ i. sym (given-numbers (r .order)) i ++ map orderNumber os) ∙ sym (map-append orderNumber (given (r .order)) os))
+    subst (λ (l : List OrderSeen). Asked b (q ∷ qs) (take (r .written) after ++ reply) l end)
+    ((λ i. sym (given-seen (r .order)) i ++ map orderSeen os) ∙ sym (map-append orderSeen (given (r .order)) os))
     (ask {r = flat r} typed (asks-all written) refl wide (receives-all got) (asked-all rest))
 
 pub off-all : {bytes rest : List ℕ} {ys : List Reading} → link.ReadOff bytes ys rest → ReadOff bytes (map flatAs ys) rest
@@ -249,8 +250,8 @@ off-all link.none = none
 off-all (link.one got off) = one (reads-flat-all got) (off-all off)
 
 -- any sequence of requests that no field keeps from being written can be asked of any board that is ready, at any stamp, and read off as often as one likes
-pub linked-askable : (t : ℕ) (qs : List Request) (b : Board) → Ready b → Sendable qs → (reply orders : List ℕ) × (end : Board) × Asked b qs reply orders end
-linked-askable t qs b can good = let x = askable t qs b can good in (x .0, map orderNumber (x .1), x .2, asked-all (x .3))
+pub linked-askable : (t : ℕ) (qs : List Request) (b : Board) → Ready b → Sendable qs → (reply : List ℕ) × (orders : List OrderSeen) × (end : Board) × Asked b qs reply orders end
+linked-askable t qs b can good = let x = askable t qs b can good in (x .0, map orderSeen (x .1), x .2, asked-all (x .3))
 
 pub linked-readable : (n : ℕ) (bytes : List ℕ) → (xs : List FlatAnswer) × (rest : List ℕ) × (length xs ≡ n) × ReadOff bytes xs rest
 linked-readable n bytes = let x = readable n bytes in (map flatAs (x .0), x .1, length-map (x .0) flatAs ∙ x .2, off-all (x .3))

@@ -8,16 +8,19 @@ use lib.Dec.{eqb}
 use lib.ListN.{take}
 use Rattle.rule.specs.Run.{Item, at}
 use Rattle.rule.specs.Rule.{Said, quiet}
-use Rattle.names.specs.Names.{orderNumber}
+use Rattle.names.specs.Names.{orderNumber, orderTravel}
 use Rattle.names.specs.declared.Order.{Order}
-use Rattle.unit.specs.Unit.{Event, clock}
+use Rattle.position.specs.declared.Travel.{Travel}
+use Rattle.position.specs.declared.Position.{Position}
+use Rattle.unit.specs.Unit.{Event, clock, position}
 use Rattle.state.specs.declared.Board.{Board}
-use Rattle.clock.specs.declared.Report.{Report}
+use Rattle.state.specs.declared.Report.{Report}
 use Rattle.demands.specs.Runs.{heard, OfferedBy}
 use Rattle.board.specs.declared.Answer.{Answer}
-use Rattle.board.proofs.rivertosku_fresh_1.Reads as fresh
-use Rattle.board.proofs.rivertosku_receive_1.Reads as receive
-use Rattle.board.proofs.rivertosku_report_clock_1.Reads as report-clock
+use Rattle.board.proofs.rivertosku_fresh_2.Reads as fresh
+use Rattle.board.proofs.rivertosku_receive_2.Reads as receive
+use Rattle.board.proofs.rivertosku_report_clock_2.Reads as report-clock
+use Rattle.board.proofs.rivertosku_report_position_2.Reads as report-position
 
 -- THE CONTRACT OF RIVERTOSKU_FRESH allows the board b
 pub data Starts (b : Board) : Type 0 where
@@ -34,23 +37,35 @@ pub data Receives (b : Board) (t : ℕ) (p before : List ℕ) (r : Answer) (afte
 pub data Hears (b : Board) (now : ℕ) (r : Report) : Type 0 where
   allowed : (κs : _) (a : _) (s : _) → report-clock.Post κs a r s → a .0 ≡ b → a .1 .0 ≡ now → Hears b now r
 
+-- THE CONTRACT OF RIVERTOSKU_REPORT_POSITION allows the answer r to the position p, reported to the board b
+pub data Locates (b : Board) (p : Position) (r : Report) : Type 0 where
+  allowed : (κs : _) (a : _) (s : _) → report-position.Post κs a r s → a .0 ≡ b → a .1 .0 ≡ p → Locates b p r
+
 -- a report of what an event says, by the export for that kind of report
 pub data Tells (b : Board) : Event → ℕ → Board → Type 0 where
   time : {now : ℕ} {r : Report} → Hears b now r → Tells b (clock now) (r .number) (r .board)
+  place : {p : Position} {r : Report} → Locates b p r → Tells b (position p) (r .number) (r .board)
 
--- what a flat answer says: the bytes written in the buffer, the number of its order, and the next board
-abbrev pub saidBy : Answer → List ℕ → Said ℕ Board
-saidBy r after = record { reply = take (r .written) after; orders = cond (eqb (r .order) 0) [] (r .order ∷ []); next = r .board }
+-- an order as C and Rust see it: its number, and the steps and microsteps that it carries
+abbrev pub OrderSeen : Type 0
+OrderSeen = ℕ × Travel
 
--- what is said, with 01's numbers for the orders
-abbrev pub numbered : Said Order Board → Said ℕ Board
-numbered x = record { reply = x .reply; orders = map orderNumber (x .orders); next = x .next }
+abbrev pub orderSeen : Order → OrderSeen
+orderSeen o = (orderNumber o, orderTravel o)
+
+-- what a flat answer says: the bytes written in the buffer, its order by number and values, and the next board
+abbrev pub saidBy : Answer → List ℕ → Said OrderSeen Board
+saidBy r after = record { reply = take (r .written) after; orders = cond (eqb (r .order) 0) [] ((r .order, record { steps = r .steps; microsteps = r .microsteps }) ∷ []); next = r .board }
+
+-- what is said, with the orders by their numbers and values
+abbrev pub numbered : Said Order Board → Said OrderSeen Board
+numbered x = record { reply = x .reply; orders = map orderSeen (x .orders); next = x .next }
 
 -- one step of a main loop of C or Rust
-pub data Step : Board → List (Item Event) → Said ℕ Board → Type 0 where
+pub data Step : Board → List (Item Event) → Said OrderSeen Board → Type 0 where
   called : {b : Board} {t : ℕ} {p before after : List ℕ} {r : Answer} → Receives b t p before r after → Step b (at t (take (r .taken) p)) (saidBy r after)
   told : {b next : Board} {e : Event} {number : ℕ} → Tells b e number next → Step b (heard number e) (quiet next)
 
 -- a run offered by such steps in any cutting
-abbrev pub Offered : Board → List (Item Event) → Said ℕ Board → Type 0
+abbrev pub Offered : Board → List (Item Event) → Said OrderSeen Board → Type 0
 Offered = OfferedBy Step

@@ -4,6 +4,7 @@ use mathlib.Core.Path.{_≡_}
 use mathlib.Core.List.{List, [], _∷_, _++_}
 use denote.Ref.{now}
 use lib.ListN.{length, take, drop}
+use Rattle.position.specs.Position.{travelOf}
 use Rattle.unit.specs.Protocol.{protocol}
 use Rattle.state.specs.declared.Board.{Board}
 use Rattle.board.specs.declared.Answer.{Answer as Call}
@@ -28,7 +29,7 @@ use Rattle.optimiser.proofs.rivertosku_read_1.Reads as read
 use Rattle.link.specs.Book.{Book, bookOf, notedAll, answersTo}
 use Rattle.link.specs.Types.{TypedIn, TypedBoard}
 use Rattle.link.specs.Asking.{Ready}
-use Rattle.linked.specs.Board.{Receives, saidBy}
+use Rattle.linked.specs.Board.{Receives, OrderSeen, saidBy}
 
 -- ---- what the contracts allow
 
@@ -58,16 +59,16 @@ pub data Asks : Request → List ℕ → FlatWritten → List ℕ → Type 0 whe
 -- ---- a sequence
 
 -- REQUESTS ASKED of the board b by C or Rust: each written by an export, the "written frame, offered whole", at any stamp, with "room enough"; the
--- replies joined, the orders by their numbers, and the board at the end
-pub data Asked : Board → List Request → List ℕ → List ℕ → Board → Type 0 where
+-- replies joined, the orders by their numbers and values, and the board at the end
+pub data Asked : Board → List Request → List ℕ → List OrderSeen → Board → Type 0 where
   none : {b : Board} → Asked b [] [] [] b
-  ask : {b end : Board} {q : Request} {w : FlatWritten} {t : ℕ} {room out before after : List ℕ} {r : Call} {qs : List Request} {reply orders : List ℕ}
+  ask : {b end : Board} {q : Request} {w : FlatWritten} {t : ℕ} {room out before after : List ℕ} {r : Call} {qs : List Request} {reply : List ℕ} {orders : List OrderSeen}
       → TypedIn q → Asks q room w out → w .number ≡ 0 → protocol .leastRoom ≤ length before → Receives b t (take (w .size) out) before r after
       → Asked (r .board) qs reply orders end
       → Asked b (q ∷ qs) (saidBy r after .reply ++ reply) (saidBy r after .orders ++ orders) end
 
 -- each call answered 0 and took its frame whole
-abbrev pub NoRefusal : {b end : Board} {qs : List Request} {reply orders : List ℕ} → Asked b qs reply orders end → Type 0
+abbrev pub NoRefusal : {b end : Board} {qs : List Request} {reply : List ℕ} {orders : List OrderSeen} → Asked b qs reply orders end → Type 0
 NoRefusal none = Unit {0}
 NoRefusal (ask {w = w} {r = r} typed asking zero wide got rest) = ((r .number ≡ 0) × (r .taken ≡ w .size)) × NoRefusal rest
 
@@ -83,19 +84,19 @@ AnswerForAnswer [] (a ∷ rest) = ⊥
 AnswerForAnswer (x ∷ xs) [] = ⊥
 AnswerForAnswer (x ∷ xs) (a ∷ rest) = (x ≡ flatRead (answerOf (x .size) a)) × AnswerForAnswer xs rest
 
--- the numbers of the orders that are asked for
-abbrev pub numbersAsked : List Request → List ℕ
-numbersAsked [] = []
-numbersAsked (Get b ∷ qs) = numbersAsked qs
-numbersAsked (Set f ∷ qs) = numbersAsked qs
-numbersAsked (Give o ∷ qs) = orderNumber o ∷ numbersAsked qs
+-- the orders that are asked for, by their numbers; they carry no steps
+abbrev pub ordersAsked : List Request → List OrderSeen
+ordersAsked [] = []
+ordersAsked (Get b ∷ qs) = ordersAsked qs
+ordersAsked (Set f ∷ qs) = ordersAsked qs
+ordersAsked (Give o ∷ qs) = (orderNumber o, travelOf []) ∷ ordersAsked qs
 
 -- THE SEQUENCE of P1, on a board whose blocks were as in the book: no request is refused, each order is given, in sequence, the replies are read back,
 -- answer for answer, to the last byte, each block holds what the requests leave in it, flags and last refused field stay, and the board can be asked
 -- again
-pub record Served (book : Book) {b end : Board} {qs : List Request} {reply orders : List ℕ} (asked : Asked b qs reply orders end) : Type 0 where
+pub record Served (book : Book) {b end : Board} {qs : List Request} {reply : List ℕ} {orders : List OrderSeen} (asked : Asked b qs reply orders end) : Type 0 where
   pub accepted : NoRefusal asked
-  pub ordered : orders ≡ numbersAsked qs
+  pub ordered : orders ≡ ordersAsked qs
   pub answered : {xs : List FlatAnswer} {rest : List ℕ} → ReadOff reply xs rest → length xs ≡ length qs → AnswerForAnswer xs (answersTo book qs) × (rest ≡ [])
   pub blocks : (c : Block) → bookOf (end .memory .settings) c ≡ notedAll book qs c
   pub notes : end .memory .notes ≡ b .memory .notes

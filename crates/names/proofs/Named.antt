@@ -1,4 +1,4 @@
--- What a kind says of its name: the name of a set is its set name, of a get its get name. Assumes nothing.
+-- What a kind says of its name: the name of a set is its set name, of a get its get name, and so on. Assumes nothing.
 use mathlib.Core.Path.{_≡_, refl, sym, subst, _∙_}
 use mathlib.Core.List.{List, [], _∷_, map}
 use Prim.Native.Nat.{ℕ, _<_}
@@ -10,10 +10,12 @@ use Rattle.rule.proofs.Choice.{either, eitherBy}
 use Rattle.keyed.specs.Keyed.{valueIn}
 use Rattle.keyed.proofs.Every.{all}
 use Rattle.keyed.proofs.Values.{value-key, value-all}
-use Rattle.sheet.specs.Sheet.{Command, setTable, getTable}
+use Rattle.sheet.specs.Names.{named}
+use Rattle.sheet.specs.Sheet.{Command, setTable, getTable, move, movr, spos, gpos}
 use Rattle.names.specs.Names.{numberIn, nameIn, namesOf, numbersOf, orderNames, orderNumber, orderIn, orderAt, given, kindOf, kindFrom, kindAt, nameOf}
 use Rattle.names.specs.declared.Kind.{Kind}
-use Rattle.names.specs.declared.Kind.the-variants.{Zero, Set, Get, Gives, Unknown}
+use Rattle.names.specs.declared.Kind.the-variants.{Zero, Set, Get, Gives, Moves, Places, Finds, Clears, Unknown}
+use Rattle.names.proofs.Lengths.{position-kind}
 use Rattle.names.proofs.Need.{kind-zero, kind-named}
 
 -- THE TABLES: each name is its own number's, by computation
@@ -36,14 +38,19 @@ Says n Zero = Unit
 Says n (Set k) = n ≡ nameIn setTable k
 Says n (Get k) = n ≡ nameIn getTable k
 Says n (Gives o) = Unit
+Says n (Moves k) = n ≡ nameIn (move ∷ movr ∷ []) k
+Says n Places = n ≡ spos .name
+Says n Finds = n ≡ gpos .name
+Says n Clears = n ≡ named "zero"
 Says n Unknown = Unit
 
 kind-says : (n : ℕ) → Says n (kindOf n)
-unfolding kindOf
+unfolding kindOf valueIn
 kind-says n =
     eitherBy (Says n) (ltb 0 (numberIn setTable n)) (Set (numberIn setTable n)) _ (λ e. found setTable n set-own (ltb-true 0 _ e))
     (λ _. eitherBy (Says n) (ltb 0 (numberIn getTable n)) (Get (numberIn getTable n)) _ (λ e. found getTable n get-own (ltb-true 0 _ e))
-    (λ _. eitherBy (Says n) (ltb 0 (orderIn n)) (Gives (orderAt (orderIn n))) Unknown (λ _. tt) (λ _. tt)))
+    (λ _. eitherBy (Says n) (ltb 0 (orderIn n)) (Gives (orderAt (orderIn n))) _ (λ _. tt)
+    (λ _. position-kind (Says n) n (λ e. e) (λ e. e) (λ e. e) (λ e. e) (λ e. e) tt)))
 
 -- the name of a set of number k is its set name, and of a get its get name
 pub set-named : (n k : ℕ) → kindOf n ≡ Set k → n ≡ nameIn setTable k
@@ -60,6 +67,10 @@ Some Zero = ⊥
 Some (Set k) = Unit {0}
 Some (Get k) = Unit {0}
 Some (Gives o) = Unit {0}
+Some (Moves k) = Unit {0}
+Some Places = Unit {0}
+Some Finds = Unit {0}
+Some Clears = Unit {0}
 Some Unknown = Unit {0}
 
 module _ (u : List ℕ) (some : Some (kindAt u)) where
@@ -75,6 +86,9 @@ set-unit u k e = set-named (nameOf u) k (sym (kind-name u (subst Some (sym e) tt
 pub get-unit : (u : List ℕ) (k : ℕ) → kindAt u ≡ Get k → nameOf u ≡ nameIn getTable k
 get-unit u k e = get-named (nameOf u) k (sym (kind-name u (subst Some (sym e) tt)) ∙ e)
 
+pub gpos-unit : (u : List ℕ) → kindAt u ≡ Finds → nameOf u ≡ gpos .name
+gpos-unit u e = rw (sym (kind-name u (subst Some (sym e) tt)) ∙ e) at (kind-says (nameOf u))
+
 -- ---- orders
 
 -- no kind gives the order that means no order
@@ -83,6 +97,10 @@ Given Zero = Unit {0}
 Given (Set k) = Unit {0}
 Given (Get k) = Unit {0}
 Given (Gives o) = given o ≡ o ∷ []
+Given (Moves k) = Unit {0}
+Given Places = Unit {0}
+Given Finds = Unit {0}
+Given Clears = Unit {0}
 Given Unknown = Unit {0}
 
 -- the number of an order's name is the order's own
@@ -98,4 +116,5 @@ kind-given u =
     either Given (eqb (getD u 0 0) 0) Zero _ tt
     (either Given (ltb 0 (numberIn setTable n)) _ _ tt
     (either Given (ltb 0 (numberIn getTable n)) _ _ tt
-    (eitherBy Given (ltb 0 (orderIn n)) _ Unknown (λ e. order-given n tt (ltb-true 0 _ e)) (λ _. tt))))
+    (eitherBy Given (ltb 0 (orderIn n)) _ _ (λ e. order-given n tt (ltb-true 0 _ e))
+    (λ _. position-kind Given n (λ _. tt) (λ _. tt) (λ _. tt) (λ _. tt) (λ _. tt) tt))))

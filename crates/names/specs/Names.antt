@@ -1,4 +1,4 @@
--- The names of 01, what the first bytes of a unit say that it is, and how long it is. In quotation marks: sheet 01.
+-- The names of 01 and 02, what the first bytes of a unit say that it is, and how long it is. In quotation marks, where nothing else is said: sheet 01.
 use mathlib.Core.Bool.{cond}
 use mathlib.Core.List.{List, [], _∷_, map}
 use Prim.Native.Nat.{ℕ}
@@ -7,12 +7,14 @@ use lib.ListN.{getD, length}
 use Rattle.wire.specs.Numbers.{leAt}
 use Rattle.keyed.specs.Keyed.{valueIn}
 use Rattle.sheet.specs.Names.{named}
-use Rattle.sheet.specs.Sheet.{Command, setTable, getTable}
+use Rattle.sheet.specs.Sheet.{Command, setTable, getTable, moveRow, sposRow, gposRow, move, movr, spos, gpos}
 use Rattle.sheet.specs.Rows.{total}
+use Rattle.position.specs.Position.{travelOf}
+use Rattle.position.specs.declared.Travel.{Travel}
 use Rattle.names.specs.declared.Order.{Order}
-use Rattle.names.specs.declared.Order.the-variants.{Nothing, Stop, Sstp, Pwof, Left, Rigt, Home, Loft}
+use Rattle.names.specs.declared.Order.the-variants.{Nothing, Stop, Sstp, Pwof, Left, Rigt, Home, Loft, Move, Movr}
 use Rattle.names.specs.declared.Kind.{Kind}
-use Rattle.names.specs.declared.Kind.the-variants.{Zero, Set, Get, Gives, Unknown}
+use Rattle.names.specs.declared.Kind.the-variants.{Zero, Set, Get, Gives, Moves, Places, Finds, Clears, Unknown}
 
 -- ---- the tables by name and by number
 
@@ -39,7 +41,7 @@ totalIn cs k = valueIn k (numbersOf cs) (totalsOf cs) 6
 
 -- ---- orders
 
--- "Orders: 1 stop, 2 sstp, 3 pwof, 4 left, 5 rigt, 6 home, 7 loft. 0 means no order."
+-- "Orders: 1 stop, 2 sstp, 3 pwof, 4 left, 5 rigt, 6 home, 7 loft. 0 means no order." 02, P5: "Orders 8 and 9"
 abbrev pub orderNumber : Order → ℕ
 orderNumber Nothing = 0
 orderNumber Stop = 1
@@ -49,7 +51,23 @@ orderNumber Left = 4
 orderNumber Rigt = 5
 orderNumber Home = 6
 orderNumber Loft = 7
+orderNumber (Move t) = 8
+orderNumber (Movr t) = 9
 
+-- 02, P5: "Orders 8 and 9 carry their steps and microsteps"; any other carries 0 and 0
+abbrev pub orderTravel : Order → Travel
+orderTravel Nothing = travelOf []
+orderTravel Stop = travelOf []
+orderTravel Sstp = travelOf []
+orderTravel Pwof = travelOf []
+orderTravel Left = travelOf []
+orderTravel Rigt = travelOf []
+orderTravel Home = travelOf []
+orderTravel Loft = travelOf []
+orderTravel (Move t) = t
+orderTravel (Movr t) = t
+
+-- those that a name alone gives
 abbrev pub orders : List Order
 orders = Nothing ∷ Stop ∷ Sstp ∷ Pwof ∷ Left ∷ Rigt ∷ Home ∷ Loft ∷ []
 
@@ -71,13 +89,23 @@ given o = cond (eqb (orderNumber o) 0) [] (o ∷ [])
 
 -- ---- kinds
 
+-- 02, P5: "Add move and movr .., spos and gpos .. and zero."
+unfoldable pub positionKind : ℕ → Kind
+positionKind n =
+    cond (eqb n (move .name)) (Moves (move .row .number))
+    (cond (eqb n (movr .name)) (Moves (movr .row .number))
+    (cond (eqb n (spos .name)) Places
+    (cond (eqb n (gpos .name)) Finds
+    (cond (eqb n (named "zero")) Clears
+    Unknown))))
+
 -- what a name says that its unit is
 unfoldable pub kindOf : ℕ → Kind
 kindOf n =
     cond (ltb 0 (numberIn setTable n)) (Set (numberIn setTable n))
     (cond (ltb 0 (numberIn getTable n)) (Get (numberIn getTable n))
     (cond (ltb 0 (orderIn n)) (Gives (orderAt (orderIn n)))
-    Unknown))
+    (positionKind n)))
 
 -- the name of the unit that begins with u
 abbrev pub nameOf : List ℕ → ℕ
@@ -91,12 +119,16 @@ kindFrom first name = cond (eqb first 0) Zero (kindOf name)
 abbrev pub kindAt : List ℕ → Kind
 kindAt u = kindFrom (getD u 0 0) (nameOf u)
 
--- "Set: the unit is the total length of its block"; any other name is its unit
+-- "Set: the unit is the total length of its block", and so "move and movr (18 bytes" and "spos .. (26 bytes" (02, P5); any other name is its unit
 abbrev pub span : Kind → ℕ
 span Zero = 1
 span (Set k) = totalIn setTable k
 span (Get k) = 4
 span (Gives o) = 4
+span (Moves k) = total moveRow
+span Places = total sposRow
+span Finds = 4
+span Clears = 4
 span Unknown = 4
 
 -- the length of its answer: "one zero byte", "the get name, data, CRC", or four letters
@@ -105,6 +137,10 @@ replied Zero = 1
 replied (Set k) = 4
 replied (Get k) = totalIn getTable k
 replied (Gives o) = 4
+replied (Moves k) = 4
+replied Places = 4
+replied Finds = total gposRow
+replied Clears = 4
 replied Unknown = 4
 
 -- The length of the unit that begins with u, as far as u tells. "A first byte of zero is a unit by itself." "Otherwise four bytes form an

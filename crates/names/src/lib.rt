@@ -1,15 +1,20 @@
-// The names of 01: what the first bytes of a unit say that it is, how long it is, and how long its answer.
+// The names of 01 and 02: what the first bytes of a unit say that it is, how long it is, and how long its answer.
 use brk::Brk;
 use eds::Eds;
 use eng::Eng;
 use hom::Hom;
 use mov::Mov;
 use pid::Pid;
+use position::Microsteps;
+use position::Position;
+use position::Spos;
+use position::Steps;
+use position::Travel;
 use pwr::Pwr;
 use sheet::names;
 ghost use mathlib.Core.Path.{_≡_};
 ghost use Rattle.sheet.specs.Sheet.{setTable, getTable};
-ghost use Rattle.names.specs.Names.{numberIn, totalIn, orderIn, orderAt, orderNumber, kindOf, kindFrom, span, replied};
+ghost use Rattle.names.specs.Names.{numberIn, totalIn, orderIn, orderAt, orderNumber, orderTravel, positionKind, kindOf, kindFrom, span, replied};
 
 pub enum Order {
     Nothing,
@@ -20,14 +25,20 @@ pub enum Order {
     Rigt,
     Home,
     Loft,
+    Move(Travel),
+    Movr(Travel),
 }
 
-// A zero, a set or a get by its number, an order, or a name that nobody knows.
+// A zero, a set or a get by its number, an order, move or movr by its number, spos, gpos, the command zero, or a name that nobody knows.
 pub enum Kind {
     Zero,
     Set(usize),
     Get(usize),
     Gives(Order),
+    Moves(usize),
+    Places,
+    Finds,
+    Clears,
     Unknown,
 }
 
@@ -182,7 +193,117 @@ pub fn order_number(order: Order) -> u8
         Order::Loft => {
             return 7;
         }
+        Order::Move(_) => {
+            return 8;
+        }
+        Order::Movr(_) => {
+            return 9;
+        }
     }
+}
+
+// The steps that an order carries, and the microsteps; most carry none. Each by itself: of a match that gives both at once the compiler makes a branch,
+// and moves the board once more at each way out of a call.
+pub fn order_steps(order: Order) -> Steps
+    ensures { λ r. ⌜ r ≡ orderTravel order .steps ⌝ }
+{
+    let none = Steps(0);
+    match order {
+        Order::Nothing => {
+            return none;
+        }
+        Order::Stop => {
+            return none;
+        }
+        Order::Sstp => {
+            return none;
+        }
+        Order::Pwof => {
+            return none;
+        }
+        Order::Left => {
+            return none;
+        }
+        Order::Rigt => {
+            return none;
+        }
+        Order::Home => {
+            return none;
+        }
+        Order::Loft => {
+            return none;
+        }
+        Order::Move(travel) => {
+            let steps = travel.steps;
+            return steps;
+        }
+        Order::Movr(travel) => {
+            let steps = travel.steps;
+            return steps;
+        }
+    }
+}
+
+pub fn order_microsteps(order: Order) -> Microsteps
+    ensures { λ r. ⌜ r ≡ orderTravel order .microsteps ⌝ }
+{
+    let none = Microsteps(0);
+    match order {
+        Order::Nothing => {
+            return none;
+        }
+        Order::Stop => {
+            return none;
+        }
+        Order::Sstp => {
+            return none;
+        }
+        Order::Pwof => {
+            return none;
+        }
+        Order::Left => {
+            return none;
+        }
+        Order::Rigt => {
+            return none;
+        }
+        Order::Home => {
+            return none;
+        }
+        Order::Loft => {
+            return none;
+        }
+        Order::Move(travel) => {
+            let microsteps = travel.microsteps;
+            return microsteps;
+        }
+        Order::Movr(travel) => {
+            let microsteps = travel.microsteps;
+            return microsteps;
+        }
+    }
+}
+
+// What a name says that its unit is, where it is none of 01's.
+fn position_kind(name: u32) -> Kind
+    ensures { λ r. ⌜ r ≡ positionKind name ⌝ }
+{
+    if name == Travel::MOVE {
+        return Kind::Moves(8);
+    }
+    if name == Travel::MOVR {
+        return Kind::Moves(9);
+    }
+    if name == Spos::SET {
+        return Kind::Places;
+    }
+    if name == Position::GET {
+        return Kind::Finds;
+    }
+    if name == names::ZERO {
+        return Kind::Clears;
+    }
+    Kind::Unknown
 }
 
 // What a name says that its unit is.
@@ -201,7 +322,7 @@ fn kind_named(name: u32) -> Kind
     if 0 < order {
         return Kind::Gives(order_at(order));
     }
-    Kind::Unknown
+    position_kind(name)
 }
 
 // What a unit is that begins with this byte, and this name from that byte on.
@@ -231,6 +352,18 @@ pub fn span_of(kind: Kind) -> usize
         Kind::Gives(_) => {
             return 4;
         }
+        Kind::Moves(_) => {
+            return Travel::TOTAL;
+        }
+        Kind::Places => {
+            return Spos::TOTAL;
+        }
+        Kind::Finds => {
+            return 4;
+        }
+        Kind::Clears => {
+            return 4;
+        }
         Kind::Unknown => {
             return 4;
         }
@@ -252,6 +385,18 @@ pub fn replied_of(kind: Kind) -> usize
             return get_total(k);
         }
         Kind::Gives(_) => {
+            return 4;
+        }
+        Kind::Moves(_) => {
+            return 4;
+        }
+        Kind::Places => {
+            return 4;
+        }
+        Kind::Finds => {
+            return Position::TOTAL;
+        }
+        Kind::Clears => {
             return 4;
         }
         Kind::Unknown => {

@@ -1,8 +1,13 @@
-// The board: made in any state, called, told the time, shown. No other file reads or writes its fields. What is printed goes through functions that
-// hold no board: a statement beside a board makes a long proof.
+// The board: made in any state, called, told the time and the drive's position, shown. No other file reads or writes its fields. What is printed goes
+// through functions that hold no board: a statement beside a board makes a long proof.
 use crate::print;
 use names::Order;
+use position::Count;
+use position::Microsteps;
+use position::Position;
+use position::Steps;
 use state::Board;
+use state::Report;
 use unit::Notes;
 
 pub fn put(mut board: Board, number: usize, section: &[u8]) -> Board {
@@ -28,6 +33,21 @@ pub fn note(mut board: Board, numbers: &[u8]) -> Board {
     board
 }
 
+fn position_in(numbers: &[u8]) -> Position {
+    Position {
+        steps: Steps(wire::i32_at(numbers, 0)),
+        microsteps: Microsteps(wire::i16_at(numbers, 4)),
+        count: Count(wire::i64_at(numbers, 6)),
+    }
+}
+
+pub fn place(mut board: Board, numbers: &[u8]) -> Board {
+    let mut memory = board.memory;
+    memory.position = position_in(numbers);
+    board.memory = memory;
+    board
+}
+
 pub fn hold(mut board: Board, count: usize, stamp: u32, bytes: &[u8]) -> Board {
     let mut held = [0u8; sheet::FRAME];
     wire::copy(&mut held, 0, bytes);
@@ -43,6 +63,12 @@ fn show_notes(notes: Notes) {
     print::number(notes.field);
 }
 
+fn show_position(position: Position) {
+    print::signed(b" ", wire::wide32(position.steps.0));
+    print::signed(b":", wire::wide16(position.microsteps.0));
+    print::signed(b":", position.count.0);
+}
+
 fn show_line(held: &[u8], count: usize, stamp: u32) {
     print::number(count);
     print::beginning(held, count);
@@ -54,6 +80,8 @@ fn show_line(held: &[u8], count: usize, stamp: u32) {
 fn show_rest(board: Board) -> Board {
     let notes = board.memory.notes;
     show_notes(notes);
+    let position = board.memory.position;
+    show_position(position);
     show_line(&board.held, board.count, board.stamp);
     board
 }
@@ -67,11 +95,19 @@ fn show_reply(buffer: &[u8], written: usize, extent: usize) {
     }
 }
 
+// As the bench prints it: 20 bytes hold the longest.
+fn show_order(order: Order) {
+    let mut digits = [0u8; 20];
+    let n = trace::write_order(&mut digits, 0, order);
+    print::say(b" ");
+    print::say(&digits[..n]);
+}
+
 fn show_call(number: u8, taken: usize, written: usize, order: Order) {
     print::number(number as usize);
     print::number(taken);
     print::number(written);
-    print::number(names::order_number(order) as usize);
+    show_order(order);
 }
 
 fn call_in(
@@ -95,10 +131,17 @@ pub fn call(board: Board, extent: usize, room: usize, stamp: u32, piece: &[u8]) 
     call_in(board, extent, room, stamp, piece, &mut buffer)
 }
 
-pub fn report(board: Board, now: u32) -> Board {
-    let report = clock::report_time(board, now);
+fn show_report(report: Report) -> Board {
     print::number(report.number as usize);
     show_rest(report.board)
+}
+
+pub fn report_time(board: Board, now: u32) -> Board {
+    show_report(clock::report_time(board, now))
+}
+
+pub fn report_position(board: Board, numbers: &[u8]) -> Board {
+    show_report(drive::report_position(board, position_in(numbers)))
 }
 
 fn show_section(bad: usize, section: &[u8]) {

@@ -7,9 +7,11 @@
 //   f  fresh     the board is fresh
 //   p  put       the bytes are a data section, put into the block of this number unchecked
 //   n  note      flags, last refused block and field are three numbers of 4 bytes
+//   w  where     the bytes are the position, unchecked: steps (4), microsteps (2) and count (8)
 //   h  hold      the bytes are held, with zeros behind, the room is their count, and the stamp is the last one
 //   c  call      the bytes are the piece. Prints number, taken, written, order, the reply (or, if it is longer, that number of the buffer's bytes)
 //   r  report    the stamp is the time. Prints the number
+//   d  drive     the bytes are the position that the drive reports, as in `where`. Prints the number
 //   b  block     prints the first field out of range in the block of this number, 0 if none is, and its data section as a get sends it
 //   k  keeps     prints all the bytes that the board has room to hold, spare ones too
 //   g  get       the host writes the get of the block of this number. Prints number, length, the whole buffer
@@ -19,8 +21,9 @@
 //   x  checksum  prints the CRC of the bytes
 //   i  integer   prints the stamp's low 16 bits as a signed number
 //
-// Behind what a call or a report prints: flags, last refused block and field, count of unfinished bytes, these bytes, last stamp. Buffers have as
-// many bytes as the room says, 256 at most, all ee before. Every operation that prints ends the line, but for `say`.
+// Behind what a call or a report prints: flags, last refused block and field, position, count of unfinished bytes, these bytes, last stamp. A
+// position is printed as steps:microsteps:count, an order as the bench prints it. Buffers have as many bytes as the room says, 256 at most, all ee
+// before. Every operation that prints ends the line, but for `say`.
 // A get, a set or an order of a number that nobody has prints `no such number`.
 mod arithmetic;
 mod boards;
@@ -93,6 +96,9 @@ fn step(head: Head, board: Board, bytes: &[u8]) -> Board {
         b'n' => {
             return boards::note(board, bytes);
         }
+        b'w' => {
+            return boards::place(board, bytes);
+        }
         b'h' => {
             return boards::hold(board, head.room, head.stamp, bytes);
         }
@@ -100,7 +106,10 @@ fn step(head: Head, board: Board, bytes: &[u8]) -> Board {
             return boards::call(board, head.number, head.room, head.stamp, bytes);
         }
         b'r' => {
-            return boards::report(board, head.stamp);
+            return boards::report_time(board, head.stamp);
+        }
+        b'd' => {
+            return boards::report_position(board, bytes);
         }
         b'b' => {
             return boards::show_block(board, head.number);

@@ -13,6 +13,14 @@ pub fn number(n: usize) {
     io::print_decimal(1, n as u64);
 }
 
+// A signed number, behind a mark: 20 bytes hold the longest.
+pub fn signed(mark: &[u8], z: i64) {
+    let mut digits = [0u8; 20];
+    let n = text::write_signed(&mut digits, 0, z);
+    say(mark);
+    say(&digits[..n]);
+}
+
 // The bytes in hexadecimal, or `-`.
 pub fn hexadecimal(part: &[u8]) {
     let mut digits = [0u8; 512];

@@ -1,17 +1,17 @@
 -- How `accept` goes on byte by byte: the wait is met once, before the first byte, and `later` says what is taken and what is to come.
 use Prim.Native.Nat.{ℕ, suc, _+_, _-_, _<_, _≤_}
-use mathlib.Core.Path.{_≡_, refl, ap, sym, _∙_}
+use mathlib.Core.Path.{_≡_, refl, ap, sym, subst, _∙_}
 use mathlib.Core.Bool.{Bool, true, false}
 use mathlib.Core.List.{List, [], _∷_, _++_, append-assoc, append-nil}
 use native.Mathlib.Omega.{arith}
 use native.Mathlib.Nat.{add-zero, zero-add, sub-zero}
-use lib.Dec.{leb}
-use lib.ListN.{length, take}
-use borrow.Author.Tests.{le-leb, lt-leb}
-use Rattle.rule.specs.Run.{byte, late}
-use Rattle.rule.specs.Framing.{whole}
-use Rattle.rule.specs.Rule.{quiet, State, with-line, Protocol, deal, stateAt}
-use Rattle.rule.specs.Step.{settle, feed, feedOn, step}
+use lib.Dec.{leb, ltb}
+use lib.ListN.{length, take, length-append}
+use borrow.Author.Tests.{le-leb, lt-leb, ltb-true, ltb-false}
+use Rattle.rule.specs.Run.{byte, at, late}
+use Rattle.rule.specs.Framing.{Needs, whole}
+use Rattle.rule.specs.Rule.{Said, quiet, then, State, with-line, Protocol, deal, stateAt}
+use Rattle.rule.specs.Step.{settle, feed, feedOn, step, steps}
 use Rattle.rule.specs.Calls.{Called, accept}
 use Rattle.rule.specs.Ready.{ready}
 use Rattle.rule.specs.Facts.{says, Silent}
@@ -32,6 +32,16 @@ later p k out s t room piece =
 
 next-count : (k n : ℕ) → k + suc n ≡ k + 1 + n
 next-count k n = omega arith
+
+-- the front of a true beginning is one
+prefix-begun : {need : List ℕ → ℕ} → Needs need → (v w : List ℕ) → length (v ++ w) < need (v ++ w) → length v < need v
+prefix-begun {need} law v w h = by (ltb (length v) (need v)) refl
+  where
+    by : (y : Bool) → ltb (length v) (need v) ≡ y → length v < need v
+    by true e = ltb-true (length v) (need v) e
+    by false e =
+        let settled = law .settled v w (ltb-false (length v) (need v) e) in
+        absurd (omega (arith, ltb-false (length v) (need v) e, settled, h, length-append v w))
 
 module _ {E O M : Type 0} (p : Protocol E O M) where
   -- a byte x at the stamp of the byte before it: no wait is met
@@ -61,6 +71,18 @@ module _ {E O M : Type 0} (p : Protocol E O M) where
     unfolding deal
     step-ends h =
         step-settle ∙ rw (settle-whole (p .cuts) (p .need) on t h) (ap (with-line (record { unfinished = []; last = t })) (then-quiet (p .act m (whole on))))
+
+  -- bytes at one stamp that leave a true beginning are joined to what was unfinished, and say nothing
+  pub steps-join : Needs (p .need) → (m : M) (t : ℕ) (w v : List ℕ) → length (v ++ w) < p .need (v ++ w) → steps p (stateAt m v t) (at t w) ≡ quiet (stateAt m (v ++ w) t)
+  unfolding steps
+  steps-join law m t [] v h = ap (λ (u : List ℕ). quiet (stateAt m u t)) (sym (append-nil v))
+  steps-join law m t (x ∷ w) v h =
+      let on = v ++ x ∷ [] in
+      let same : on ++ w ≡ v ++ x ∷ w = append-assoc v (x ∷ []) w in
+      let all : length (on ++ w) < p .need (on ++ w) = subst (λ (u : List ℕ). length u < p .need u) (sym same) h in
+      let joins : length on < p .need on = prefix-begun law on w all in
+      ap (λ (a : Said O (State M)). then a (steps p (a .next) (at t w))) (step-joins m v t x joins)
+      ∙ steps-join law m t w on all ∙ ap (λ (u : List ℕ). quiet (stateAt m u t)) same
 
   -- the first byte of a call finds the state ready
   pub step-ready : Silent p → (s : State M) (t x : ℕ) → step p s (byte t x) ≡ step p (ready p s t) (byte t x)

@@ -7,12 +7,12 @@ use mathlib.Core.List.{List, [], _∷_, _++_, append-nil}
 use native.Mathlib.Omega.{arith}
 use lib.ListN.{length, length-append}
 use borrow.Author.Tests.{lt-ltb, le-leb}
-use Rattle.rule.specs.Run.{Item, byte, at, late}
+use Rattle.rule.specs.Run.{Item, byte, event, at, late}
 use Rattle.rule.specs.Framing.{Needs, begun, Token, whole, lost}
 use Rattle.rule.specs.Rule.{State, Protocol, deal}
 use Rattle.rule.specs.Step.{Fed, settle, feedOn, feed, step, steps}
 use Rattle.rule.specs.Calls.{Called, going, accept}
-use Rattle.rule.specs.Facts.{says, Silent, Stopped, ended, ordered, full}
+use Rattle.rule.specs.Facts.{TokenOf, EventsOf, says, Silent, Stopped, ended, ordered, full}
 use Rattle.rule.proofs.Choice.{either, eitherNone}
 use Rattle.rule.proofs.Framing.{settle-either}
 use Rattle.rule.proofs.Accept.{accept-by}
@@ -42,18 +42,53 @@ module _ {E O M : Type 0} (p : Protocol E O M) where
   steps-begun law t [] s h = h
   steps-begun law t (x ∷ piece) s h = steps-begun law t piece (step p s (byte t x) .next) (step-begun law s t x)
 
-  -- what tokens keep true of the memory
-  module _ (P : M → Type 0) (keeps : (m : M) (k : Token E) → P m → P (p .act m k .next)) where
-    deal-keeps : (ks : List (Token E)) (m : M) → P m → P (deal p m ks .next)
+  -- what tokens keep true of the memory, where each event is one of Q
+  module _ (P : M → Type 0) (Q : E → Type 0) (keeps : (m : M) (k : Token E) → TokenOf Q k → P m → P (p .act m k .next)) where
+    abbrev Each : List (Token E) → Type 0
+    Each [] = Unit {0}
+    Each (k ∷ ks) = TokenOf Q k × Each ks
+
+    deal-keeps : (ks : List (Token E)) (m : M) → Each ks → P m → P (deal p m ks .next)
     unfolding deal
-    deal-keeps [] m h = h
-    deal-keeps (k ∷ ks) m h = deal-keeps ks (p .act m k .next) (keeps m k h)
+    deal-keeps [] m f h = h
+    deal-keeps (k ∷ ks) m f h = deal-keeps ks (p .act m k .next) (f .1) (keeps m k (f .0) h)
 
-    pub steps-keep : (r : List (Item E)) (s : State M) → P (s .memory) → P (steps p s r .next .memory)
-    unfolding steps step
-    steps-keep [] s h = h
-    steps-keep (x ∷ r) s h = steps-keep r (step p s x .next) (deal-keeps (feed (p .cuts) (p .need) (s .line) x .tokens) (s .memory) h)
+    -- the tokens of one item
+    abbrev Fine : Fed E → Type 0
+    Fine f = Each (f .tokens)
 
+    settle-fine : (u : List ℕ) (t : ℕ) → Fine (settle (p .cuts) (p .need) u t)
+    settle-fine u t = settle-either (p .cuts) (p .need) Fine u t (λ _. (tt, tt)) (λ _. tt)
+
+    byte-fine : (u : List ℕ) (last t x : ℕ) → Fine (feedOn (p .cuts) (p .need) u last (byte t x))
+    unfolding feedOn
+    byte-fine [] last t x = settle-fine (x ∷ []) t
+    byte-fine (a ∷ u) last t x = either Fine (late t last) _ _ (tt, settle-fine (x ∷ []) t) (settle-fine (a ∷ u ++ x ∷ []) t)
+
+    event-fine : (u : List ℕ) (last : ℕ) (e : E) → Q e → Fine (feedOn (p .cuts) (p .need) u last (event e))
+    unfolding feedOn
+    event-fine [] last e q = (q, tt)
+    event-fine (a ∷ u) last e q = either Fine (p .cuts last e) _ _ (tt, (q, tt)) (q, tt)
+
+    pub steps-keep : (r : List (Item E)) (s : State M) → EventsOf Q r → P (s .memory) → P (steps p s r .next .memory)
+    unfolding steps step feed
+    steps-keep [] s q h = h
+    steps-keep (byte t x ∷ r) s q h =
+        steps-keep r (step p s (byte t x) .next) q (deal-keeps _ (s .memory) (byte-fine (s .line .unfinished) (s .line .last) t x) h)
+    steps-keep (event e ∷ r) s q h =
+        steps-keep r (step p s (event e) .next) (q .1) (deal-keeps _ (s .memory) (event-fine (s .line .unfinished) (s .line .last) e (q .0)) h)
+
+-- bytes have no event, and any event is one
+pub no-events : {E : Type 0} (Q : E → Type 0) (t : ℕ) (u : List ℕ) → EventsOf Q (at t u)
+no-events Q t [] = tt
+no-events Q t (x ∷ u) = no-events Q t u
+
+pub any-events : {E : Type 0} (r : List (Item E)) → EventsOf (λ _. Unit {0}) r
+any-events [] = tt
+any-events (byte t x ∷ r) = any-events r
+any-events (event e ∷ r) = (tt, any-events r)
+
+module _ {E O M : Type 0} (p : Protocol E O M) where
   -- what a byte says is nothing, or what one whole unit says
   module _ (quiets : Silent p) (P : List ℕ → List O → Type 0) (nothing : P [] [])
       (unit : (m : M) (u : List ℕ) → P (p .act m (whole u) .reply) (p .act m (whole u) .orders)) where

@@ -1,15 +1,25 @@
 -- The byte step over any run, from nothing unfinished, is the whole-run rule.
 use Prim.Native.Nat.{ℕ}
 use mathlib.Core.Path.{_≡_, refl, ap, sym, _∙_}
+use mathlib.Core.Bool.{false}
 use mathlib.Core.List.{List, [], _∷_, _++_}
-use Rattle.rule.specs.Run.{Item, lastStamp}
-use Rattle.rule.specs.Framing.{Needs}
-use Rattle.rule.specs.Rule.{Said, then, Line, State, with-line, Protocol, deal, wholeRun}
-use Rattle.rule.specs.Step.{feed, feeds, step, steps}
-use Rattle.rule.proofs.Said.{then-then, deal-append}
+use Rattle.rule.specs.Run.{Item, event, lastStamp}
+use Rattle.rule.specs.Framing.{Needs, seen}
+use Rattle.rule.specs.Rule.{Said, then, Line, State, with-line, stateAt, Protocol, deal, wholeRun}
+use Rattle.rule.specs.Step.{feedOn, feed, feeds, step, steps}
+use Rattle.rule.proofs.Said.{then-quiet, then-then, deal-append}
 use Rattle.rule.proofs.Framing.{feeds-is-units, feeds-last}
 
 module _ {E O M : Type 0} (p : Protocol E O M) where
+  -- an event that drops nothing leaves the line as it stands
+  pub event-step : (s : State M) (e : E) → p .cuts (s .line .last) e ≡ false → step p s (event e) ≡ with-line (s .line) (p .act (s .memory) (seen e))
+  unfolding step feed feedOn deal
+  event-step s e still = by (s .line .unfinished)
+    where
+      by : (u : List ℕ) → let held : State M = stateAt (s .memory) u (s .line .last) in step p held (event e) ≡ with-line (held .line) (p .act (s .memory) (seen e))
+      by [] = ap (with-line _) (then-quiet (p .act (s .memory) (seen e)))
+      by (a ∷ u) = rw still (ap (with-line _) (then-quiet (p .act (s .memory) (seen e))))
+
   pub steps-append : (q r : List (Item E)) (s : State M) → steps p s (q ++ r) ≡ then (steps p s q) (steps p (steps p s q .next) r)
   unfolding steps
   steps-append [] r s = refl

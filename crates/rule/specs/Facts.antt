@@ -4,7 +4,7 @@ use mathlib.Core.Path.{_≡_}
 use mathlib.Core.Bool.{false}
 use mathlib.Core.List.{List, [], _∷_, _++_}
 use lib.ListN.{length, getD, take, drop}
-use Rattle.rule.specs.Run.{Item, byte, at, late}
+use Rattle.rule.specs.Run.{Item, byte, event, at, late}
 use Rattle.rule.specs.Framing.{Token, whole, lost, seen, Cut}
 use Rattle.rule.specs.Rule.{Said, State, Protocol}
 use Rattle.rule.specs.Step.{step, steps}
@@ -32,6 +32,18 @@ module _ {E : Type 0} where
   TokenOfBytes (whole u) = OfBytes u
   TokenOfBytes (lost u) = OfBytes u
   TokenOfBytes (seen e) = Unit {0}
+
+  -- an event that a token tells is one of these; bytes tell none
+  abbrev pub TokenOf : (E → Type 0) → Token E → Type 0
+  TokenOf Q (whole u) = Unit {0}
+  TokenOf Q (lost u) = Unit {0}
+  TokenOf Q (seen e) = Q e
+
+  -- and so is each event of a run
+  abbrev pub EventsOf : (E → Type 0) → List (Item E) → Type 0
+  EventsOf Q [] = Unit {0}
+  EventsOf Q (byte t b ∷ r) = EventsOf Q r
+  EventsOf Q (event e ∷ r) = Q e × EventsOf Q r
 
   -- all the bytes of a cut
   abbrev pub allBytes : Cut E → List ℕ

@@ -8,7 +8,7 @@ use lib.Dec.{T, eqb, leb}
 use borrow.Author.Tests.{eq-eqb, ne-eqb, eqb-true, eqb-false, leb-true, leb-false}
 use Rattle.rule.specs.Rule.{State}
 use Rattle.rule.specs.Calls.{call}
-use Rattle.sheet.specs.Sheet.{Row, movRow, engRow, pwrRow, edsRow, homRow, brkRow, pidRow}
+use Rattle.sheet.specs.Sheet.{Row, movRow, engRow, pwrRow, edsRow, homRow, brkRow, pidRow, gposRow}
 use Rattle.sheet.specs.Rows.{numbersIn, dataOf, rowAt}
 use Rattle.sheet.proofs.Codec.{Codec, decoded}
 use Rattle.mov.specs.Mov.{MovHeld}
@@ -25,6 +25,8 @@ use Rattle.brk.specs.Brk.{BrkHeld}
 use Rattle.brk.proofs.Codec.{brk-codec}
 use Rattle.pid.specs.Pid.{PidHeld}
 use Rattle.pid.proofs.Codec.{pid-codec}
+use Rattle.position.specs.Position.{positionNumbers, PositionHeld}
+use Rattle.position.proofs.Codec.{position-codec}
 use Rattle.settings.specs.Settings.{numbersAt, dataAt}
 use Rattle.settings.specs.declared.Settings.{Settings}
 use Rattle.unit.specs.Protocol.{protocol, soundState}
@@ -32,7 +34,7 @@ use Rattle.unit.specs.declared.Memory.{Memory}
 use Rattle.state.specs.State.{stateOf}
 use Rattle.state.specs.Sound.{refusalOf}
 use Rattle.state.specs.declared.Board.{Board}
-use Rattle.same.specs.Same.{sameBytes, sameTo, sameSettings, sameNotes, sameStates, sameBoards}
+use Rattle.same.specs.Same.{sameBytes, sameTo, sameSettings, sameNotes, samePositions, sameStates, sameBoards}
 use Rattle.same.proofs.Alike.{bytes-self, bytes-are}
 
 both : (t x : Bool) → cond t x false ≡ true → (t ≡ true) × (x ≡ true)
@@ -48,7 +50,7 @@ to-self (suc n) s = rw (bytes-self (dataAt s (suc n))) (to-self n s)
 
 pub same-self : (b : Board) → sameBoards b b ≡ true
 same-self b =
-    rw (eq-eqb (b .stamp) (b .stamp) refl, eq-eqb (b .memory .notes .flags) (b .memory .notes .flags) refl, eq-eqb (b .memory .notes .block) (b .memory .notes .block) refl, eq-eqb (b .memory .notes .field) (b .memory .notes .field) refl, bytes-self (stateOf b .line .unfinished))
+    rw (eq-eqb (b .stamp) (b .stamp) refl, eq-eqb (b .memory .notes .flags) (b .memory .notes .flags) refl, eq-eqb (b .memory .notes .block) (b .memory .notes .block) refl, eq-eqb (b .memory .notes .field) (b .memory .notes .field) refl, bytes-self (dataOf gposRow (positionNumbers (b .memory .position))), bytes-self (stateOf b .line .unfinished))
     (to-self 7 (b .memory .settings))
 
 -- ---- every get of two boards that are the same answers the same
@@ -84,21 +86,26 @@ settings-data s t h k = some (eqb k 0) refl
 
 module _ (a b : Board) (h : sameBoards a b ≡ true) where
   parts : (eqb (a .stamp) (b .stamp) ≡ true) × (sameNotes (a .memory .notes) (b .memory .notes) ≡ true)
+      × (samePositions (a .memory .position) (b .memory .position) ≡ true)
       × (sameBytes (stateOf a .line .unfinished) (stateOf b .line .unfinished) ≡ true) × (sameSettings (a .memory .settings) (b .memory .settings) ≡ true)
   parts =
       let stamps = both (eqb (a .stamp) (b .stamp)) _ h in
       let notes = both (sameNotes (a .memory .notes) (b .memory .notes)) _ (stamps .1) in
-      let bytes = both (sameBytes (stateOf a .line .unfinished) (stateOf b .line .unfinished)) _ (notes .1) in
-      (stamps .0, notes .0, bytes .0, bytes .1)
+      let position = both (samePositions (a .memory .position) (b .memory .position)) _ (notes .1) in
+      let bytes = both (sameBytes (stateOf a .line .unfinished) (stateOf b .line .unfinished)) _ (position .1) in
+      (stamps .0, notes .0, position .0, bytes .0, bytes .1)
 
-  -- WHAT A GET SENDS is the same, whatever the block
+  -- WHAT A GET SENDS is the same, whatever the block; and what gpos sends
   pub same-data : (k : ℕ) → dataAt (a .memory .settings) k ≡ dataAt (b .memory .settings) k
-  same-data = settings-data (a .memory .settings) (b .memory .settings) (parts .3)
+  same-data = settings-data (a .memory .settings) (b .memory .settings) (parts .4)
+
+  pub same-gpos : dataOf gposRow (positionNumbers (a .memory .position)) ≡ dataOf gposRow (positionNumbers (b .memory .position))
+  same-gpos = bytes-are _ _ (parts .2)
 
   pub same-line : stateOf a .line ≡ stateOf b .line
   same-line =
       let last = eqb-true (a .stamp) (b .stamp) (parts .0) in
-      let bytes = bytes-are _ _ (parts .2) in
+      let bytes = bytes-are _ _ (parts .3) in
       λ i. record { unfinished = bytes i; last = last i }
 
   pub same-notes : a .memory .notes ≡ b .memory .notes
@@ -114,37 +121,39 @@ module _ (a b : Board) (h : sameBoards a b ≡ true) where
 
 -- ---- two boards that are the same stand for one state of the rule
 
--- what the types of the fields say of the settings
-pub record Held (s : Settings) : Type 0 where
-  pub mov : MovHeld (s .mov)
-  pub eng : EngHeld (s .eng)
-  pub pwr : PwrHeld (s .pwr)
-  pub eds : EdsHeld (s .eds)
-  pub hom : HomHeld (s .hom)
-  pub brk : BrkHeld (s .brk)
-  pub pid : PidHeld (s .pid)
+-- what the types of the fields say of the settings and the position
+pub record Held (m : Memory) : Type 0 where
+  pub mov : MovHeld (m .settings .mov)
+  pub eng : EngHeld (m .settings .eng)
+  pub pwr : PwrHeld (m .settings .pwr)
+  pub eds : EdsHeld (m .settings .eds)
+  pub hom : HomHeld (m .settings .hom)
+  pub brk : BrkHeld (m .settings .brk)
+  pub pid : PidHeld (m .settings .pid)
+  pub position : PositionHeld (m .position)
 
 block-is : (r : Row) (X : Type 0) (of : List ℕ → X) (to : X → List ℕ) (H : X → Type 0) → Codec r X of to H → (x y : X) → H x → H y → dataOf r (to x) ≡ dataOf r (to y) → x ≡ y
 block-is r X of to H c x y p q e = sym (decoded r X of to H c x p []) ∙ ap (λ (d : List ℕ). of (numbersIn r (d ++ []))) e ∙ decoded r X of to H c y q []
 
-settings-are : (s t : Settings) → Held s → Held t → ((k : ℕ) → dataAt s k ≡ dataAt t k) → s ≡ t
-settings-are s t p q d =
-    let mov = block-is movRow _ _ _ _ mov-codec (s .mov) (t .mov) (p .mov) (q .mov) (d 1) in
-    let eng = block-is engRow _ _ _ _ eng-codec (s .eng) (t .eng) (p .eng) (q .eng) (d 2) in
-    let pwr = block-is pwrRow _ _ _ _ pwr-codec (s .pwr) (t .pwr) (p .pwr) (q .pwr) (d 3) in
-    let eds = block-is edsRow _ _ _ _ eds-codec (s .eds) (t .eds) (p .eds) (q .eds) (d 4) in
-    let hom = block-is homRow _ _ _ _ hom-codec (s .hom) (t .hom) (p .hom) (q .hom) (d 5) in
-    let brk = block-is brkRow _ _ _ _ brk-codec (s .brk) (t .brk) (p .brk) (q .brk) (d 6) in
-    let pid = block-is pidRow _ _ _ _ pid-codec (s .pid) (t .pid) (p .pid) (q .pid) (d 7) in
+settings-are : (m n : Memory) → Held m → Held n → ((k : ℕ) → dataAt (m .settings) k ≡ dataAt (n .settings) k) → m .settings ≡ n .settings
+settings-are m n p q d =
+    let mov = block-is movRow _ _ _ _ mov-codec (m .settings .mov) (n .settings .mov) (p .mov) (q .mov) (d 1) in
+    let eng = block-is engRow _ _ _ _ eng-codec (m .settings .eng) (n .settings .eng) (p .eng) (q .eng) (d 2) in
+    let pwr = block-is pwrRow _ _ _ _ pwr-codec (m .settings .pwr) (n .settings .pwr) (p .pwr) (q .pwr) (d 3) in
+    let eds = block-is edsRow _ _ _ _ eds-codec (m .settings .eds) (n .settings .eds) (p .eds) (q .eds) (d 4) in
+    let hom = block-is homRow _ _ _ _ hom-codec (m .settings .hom) (n .settings .hom) (p .hom) (q .hom) (d 5) in
+    let brk = block-is brkRow _ _ _ _ brk-codec (m .settings .brk) (n .settings .brk) (p .brk) (q .brk) (d 6) in
+    let pid = block-is pidRow _ _ _ _ pid-codec (m .settings .pid) (n .settings .pid) (p .pid) (q .pid) (d 7) in
     λ i. record { mov = mov i; eng = eng i; pwr = pwr i; eds = eds i; hom = hom i; brk = brk i; pid = pid i }
 
-module _ (a b : Board) (p : Held (a .memory .settings)) (q : Held (b .memory .settings)) where
+module _ (a b : Board) (p : Held (a .memory)) (q : Held (b .memory)) where
   pub same-state : sameBoards a b ≡ true → stateOf a ≡ stateOf b
   same-state h =
-      let settings = settings-are (a .memory .settings) (b .memory .settings) p q (same-data a b h) in
+      let settings = settings-are (a .memory) (b .memory) p q (same-data a b h) in
       let notes = same-notes a b h in
+      let position = block-is gposRow _ _ _ _ position-codec (a .memory .position) (b .memory .position) (p .position) (q .position) (same-gpos a b h) in
       let line = same-line a b h in
-      λ i. record { memory = record { settings = settings i; notes = notes i }; line = line i }
+      λ i. record { memory = record { settings = settings i; notes = notes i; position = position i }; line = line i }
 
   -- so every public entry judges them alike, and every call says the same of both
   pub same-judged : sameBoards a b ≡ true → refusalOf a ≡ refusalOf b

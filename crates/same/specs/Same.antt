@@ -4,6 +4,10 @@ use mathlib.Core.List.{List, [], _∷_}
 use Prim.Native.Nat.{ℕ, zero, suc}
 use lib.Dec.{eqb}
 use Rattle.rule.specs.Rule.{State}
+use Rattle.sheet.specs.Sheet.{gposRow}
+use Rattle.sheet.specs.Rows.{dataOf}
+use Rattle.position.specs.Position.{positionNumbers}
+use Rattle.position.specs.declared.Position.{Position}
 use Rattle.settings.specs.Settings.{dataAt}
 use Rattle.settings.specs.declared.Settings.{Settings}
 use Rattle.unit.specs.declared.Notes.{Notes}
@@ -32,12 +36,18 @@ sameSettings s t = sameTo 7 s t
 abbrev pub sameNotes : Notes → Notes → Bool
 sameNotes m n = cond (eqb (m .flags) (n .flags)) (cond (eqb (m .block) (n .block)) (eqb (m .field) (n .field)) false) false
 
--- what the rule knows of a board: the last stamp, the notes, the unfinished bytes, the blocks
+-- the position, as gpos sends it
+abbrev pub samePositions : Position → Position → Bool
+samePositions p q = sameBytes (dataOf gposRow (positionNumbers p)) (dataOf gposRow (positionNumbers q))
+
+-- what the rule knows of a board: the last stamp, the notes, the position, the unfinished bytes, the blocks
 abbrev pub sameStates : State Memory → State Memory → Bool
 sameStates s t =
     cond (eqb (s .line .last) (t .line .last))
     (cond (sameNotes (s .memory .notes) (t .memory .notes))
+    (cond (samePositions (s .memory .position) (t .memory .position))
     (cond (sameBytes (s .line .unfinished) (t .line .unfinished)) (sameSettings (s .memory .settings) (t .memory .settings)) false)
+    false)
     false)
     false
 

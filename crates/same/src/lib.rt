@@ -1,5 +1,6 @@
 // Whether two boards are the same: in what they keep, and not in the bytes of their structs, whose gaps are anything. For C and Rust, in an archive of
 // its own: with a second caller of what a call needs, the compiler would make other code of the call.
+use position::Position;
 use settings::Settings;
 use state::Board;
 use unit::Notes;
@@ -8,7 +9,7 @@ ghost use Prim.Native.Nat.{min};
 ghost use lib.ListN.{length, take};
 ghost use Rattle.sheet.specs.Lengths.{longestFrame};
 ghost use Rattle.settings.specs.Settings.{dataAt};
-ghost use Rattle.same.specs.Same.{sameBytes, sameSettings, sameNotes, sameBoards, comparedAs};
+ghost use Rattle.same.specs.Same.{sameBytes, sameSettings, sameNotes, samePositions, sameBoards, comparedAs};
 
 // Whether two parts are the same bytes.
 fn bytes(a: &[u8], b: &[u8]) -> bool
@@ -64,6 +65,17 @@ fn notes(a: Notes, b: Notes) -> bool
     a.field == b.field
 }
 
+// Whether the position is the same: both are laid out as gpos sends them.
+fn position(a: Position, b: Position) -> bool
+    ensures { λ r. ⌜ r ≡ samePositions a b ⌝ }
+{
+    let mut x = [0u8; sheet::FRAME];
+    let mut y = [0u8; sheet::FRAME];
+    a.encode(&mut x);
+    b.encode(&mut y);
+    bytes(&x, &y)
+}
+
 // As many of the bytes held as there are.
 fn most(n: usize) -> usize
     ensures { λ r. ⌜ r ≡ min n longestFrame ⌝ }
@@ -81,7 +93,7 @@ fn unfinished(x: [u8; sheet::FRAME], m: usize, y: [u8; sheet::FRAME], n: usize) 
     bytes(&x[..i], &y[..j])
 }
 
-// Whether two boards are the same: last stamp, notes, unfinished bytes, and every block as a get sends it.
+// Whether two boards are the same: last stamp, notes, position, unfinished bytes, and every block as a get sends it.
 fn boards(a: Board, b: Board) -> bool
     ensures { λ r. ⌜ r ≡ sameBoards a b ⌝ }
 {
@@ -89,6 +101,9 @@ fn boards(a: Board, b: Board) -> bool
         return false;
     }
     if !notes(a.memory.notes, b.memory.notes) {
+        return false;
+    }
+    if !position(a.memory.position, b.memory.position) {
         return false;
     }
     let front = a.held;
@@ -102,7 +117,7 @@ fn boards(a: Board, b: Board) -> bool
 // 3 where one of them is not sound, else 0 where two boards are the same, and 1 where they are not. The name ends in the layout's number, as the
 // board's functions have it.
 #[no_mangle]
-pub extern "C" fn rivertosku_same_1(a: Board, b: Board) -> u8
+pub extern "C" fn rivertosku_same_2(a: Board, b: Board) -> u8
     ensures { λ r. ⌜ r ≡ comparedAs a b ⌝ }
 {
     let one = state::judge(a);

@@ -2,8 +2,8 @@
 use mathlib.Core.Path.{_≡_, sym, ap, _∙_, subst}
 use mathlib.Core.List.{List, _++_}
 use Prim.Native.Nat.{ℕ, _≤_, _<_, _^_}
-use mir.Syntax.{w16, w32}
-use mir.Val.{Fits, SFits, toZ, ofZ}
+use mir.Syntax.{Width}
+use mir.Val.{bits, Fits, SFits, toZ, ofZ}
 use mir.ValLaws.{ofZ-toZ, toZ-fits}
 use Rattle.wire.proofs.Laid.{Room, room-at}
 use lib.ListN.{length, getD}
@@ -44,25 +44,16 @@ pub always : (r : Row) (X : Type 0) (of : List ℕ → X) (to : X → List ℕ) 
     → Codec r X of to Held
 always r X of to Held b m f k = record { back = λ ns h _. b ns h; judged = λ ns h. ap (firstBad r) (b ns h); room = m; forth = f; held = k }
 
--- ---- signed fields
+-- ---- signed fields, of any width
 
-module _ (ws ns : List ℕ) (k : ℕ) where
-  fits16 : getD ws k 0 ≡ 2 → Room ws ns → Fits w16 (getD ns k 0)
-  fits16 e h = record { fits = subst (λ (w : ℕ). getD ns k 0 < 256 ^ w) e (room-at ws ns k h) }
-
-  fits32 : getD ws k 0 ≡ 4 → Room ws ns → Fits w32 (getD ns k 0)
-  fits32 e h = record { fits = subst (λ (w : ℕ). getD ns k 0 < 256 ^ w) e (room-at ws ns k h) }
+module _ (w : Width) (ws ns : List ℕ) (k : ℕ) where
+  fits : 256 ^ getD ws k 0 ≡ 2 ^ bits w → Room ws ns → Fits w (getD ns k 0)
+  fits e h = record { fits = subst (λ (top : ℕ). getD ns k 0 < top) e (room-at ws ns k h) }
 
   -- the number comes back
-  pub signed16 : getD ws k 0 ≡ 2 → Room ws ns → ofZ w16 (toZ w16 (getD ns k 0)) ≡ getD ns k 0
-  signed16 e h = ofZ-toZ w16 (getD ns k 0) (fits16 e h)
-
-  pub signed32 : getD ws k 0 ≡ 4 → Room ws ns → ofZ w32 (toZ w32 (getD ns k 0)) ≡ getD ns k 0
-  signed32 e h = ofZ-toZ w32 (getD ns k 0) (fits32 e h)
+  pub signed-back : 256 ^ getD ws k 0 ≡ 2 ^ bits w → Room ws ns → ofZ w (toZ w (getD ns k 0)) ≡ getD ns k 0
+  signed-back e h = ofZ-toZ w (getD ns k 0) (fits e h)
 
   -- and what it stands for fits its type
-  pub held16 : getD ws k 0 ≡ 2 → Room ws ns → SFits w16 (toZ w16 (getD ns k 0))
-  held16 e h = toZ-fits w16 (getD ns k 0) (fits16 e h)
-
-  pub held32 : getD ws k 0 ≡ 4 → Room ws ns → SFits w32 (toZ w32 (getD ns k 0))
-  held32 e h = toZ-fits w32 (getD ns k 0) (fits32 e h)
+  pub signed-held : 256 ^ getD ws k 0 ≡ 2 ^ bits w → Room ws ns → SFits w (toZ w (getD ns k 0))
+  signed-held e h = toZ-fits w (getD ns k 0) (fits e h)

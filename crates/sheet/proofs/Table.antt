@@ -7,7 +7,7 @@ use native.Mathlib.Omega.{arith}
 use lib.Dec.{eqb}
 use Rattle.wire.proofs.Laid.{Room}
 use Rattle.ranges.specs.Tests.{within, signedWithin, finite, onlyBits, firstFalse}
-use Rattle.sheet.specs.Sheet.{Row, Command, sheet, setTable, getTable, movRow, engRow, pwrRow, edsRow, homRow, brkRow, pidRow}
+use Rattle.sheet.specs.Sheet.{Row, Command, sheet, setTable, getTable, move, movr, spos, gpos, movRow, engRow, pwrRow, edsRow, homRow, brkRow, pidRow}
 use Rattle.sheet.specs.Lengths.{longestFrame}
 use Rattle.sheet.specs.Rows.{widths, total, firstBad, fresh, least, rowAt, rowIn}
 
@@ -23,7 +23,7 @@ abbrev largest : List ℕ → ℕ
 largest [] = 0
 largest (n ∷ ns) = max n (largest ns)
 
-pub longest-total : largest (map (λ (c : Command). total (c .row)) (setTable ++ getTable)) ≡ longestFrame
+pub longest-total : largest (map (λ (c : Command). total (c .row)) (setTable ++ getTable ++ move ∷ movr ∷ spos ∷ gpos ∷ [])) ≡ longestFrame
 longest-total = refl
 
 -- the letters of each name are its number in 004
@@ -32,6 +32,11 @@ set-names = refl
 
 pub get-names : map (λ (c : Command). c .name) getTable ≡ 0x766f6d67 ∷ 0x676e6567 ∷ 0x72777067 ∷ 0x73646567 ∷ 0x6d6f6867 ∷ 0x6b726267 ∷ 0x64697067 ∷ []
 get-names = refl
+
+-- 02, P5: numbers, lengths and names of its four commands
+pub moves-are : map {B = ℕ × (ℕ × ℕ)} (λ (c : Command). (c .row .number, (total (c .row), c .name))) (move ∷ movr ∷ spos ∷ gpos ∷ [])
+    ≡ (8, (18, 0x65766f6d)) ∷ (9, (18, 0x72766f6d)) ∷ (10, (26, 0x736f7073)) ∷ (10, (26, 0x736f7067)) ∷ []
+moves-are = refl
 
 -- "mov Accel and Decel 1; eng NomCurrent 15, NomSpeed 1, MicrostepMode 1, StepsPerRev 1", every other field 0
 pub fresh-values : map fresh sheet

@@ -6,7 +6,7 @@ use lib.Dec.{eqb}
 use lib.Ieee.{Float, binary32, ofBits}
 use lib.IntN.{ℤ}
 use lib.ListN.{getD, take, replicate}
-use mir.Syntax.{w16, w32}
+use mir.Syntax.{w16, w32, w64}
 use mir.Val.{toZ}
 use Rattle.wire.specs.Layout.{numbers, laid, sum}
 use Rattle.ranges.specs.Tests.{firstFalse}
@@ -50,10 +50,10 @@ TypeOf unsigned = ℕ
 TypeOf signed = ℤ
 TypeOf float = Float
 
--- the one that its number of so many bytes stands for; a signed number has 2 or 4
+-- the one that its number of so many bytes stands for; a signed number has 2, 4 or 8
 abbrev pub value : (s : Sort) → ℕ → ℕ → TypeOf s
 value unsigned w n = n
-value signed w n = toZ (cond (eqb w 2) w16 w32) n
+value signed w n = toZ (cond (eqb w 2) w16 (cond (eqb w 4) w32 w64)) n
 value float w n = ofBits binary32 n
 
 -- all fields, by the numbers from place k on

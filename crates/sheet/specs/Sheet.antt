@@ -1,5 +1,5 @@
--- Sheet 01's table of blocks, row by row in its sequence. Above each row stands what 01 says, and what 02 says of its flags; totals are derived
--- (Rows, `total`).
+-- Sheet 01's table of blocks, row by row in its sequence, and behind it 02's. Above each row stands what 01 says, and what 02 says of its flags; totals
+-- are derived (Rows, `total`).
 use mathlib.Core.Bool.{Bool}
 use mathlib.Core.List.{List, [], _∷_}
 use Prim.Native.Nat.{ℕ}
@@ -42,6 +42,9 @@ S16 t = record { sort = signed; width = 2; test = t }
 
 abbrev S32 : (ℕ → Bool) → Field
 S32 t = record { sort = signed; width = 4; test = t }
+
+abbrev S64 : (ℕ → Bool) → Field
+S64 t = record { sort = signed; width = 8; test = t }
 
 -- "each must be finite"
 abbrev F : Field
@@ -167,6 +170,48 @@ pidRow =
       reserved = 24;
     }
 
+-- ---- 02, P5: "The blocks are numbered 8 move, 9 movr, 10 spos." The board keeps none of them as a setting
+
+-- "move and movr (18 bytes: S32 steps, S16 microsteps -255..255, 6 reserved)"
+abbrev travelFields : List Field
+travelFields =
+    S32 any  -- steps
+    ∷ S16 (signedWithin 255)  -- microsteps
+    ∷ []
+
+abbrev pub moveRow : Row
+moveRow = record { number = 8; fields = travelFields; reserved = 6 }
+
+abbrev pub movrRow : Row
+movrRow = record { number = 9; fields = travelFields; reserved = 6 }
+
+-- "spos and gpos (26 bytes: S32 steps, S16 microsteps, S64 encoder counts; spos then has flags U8 and 5 reserved, gpos 6 reserved)"; "In spos's flags
+-- 0x01 leaves steps and microsteps, 0x02 leaves the encoder count; other bits are refused as in P2."
+abbrev pub sposRow : Row
+sposRow =
+    record {
+      number = 10;
+      fields =
+          S32 any  -- steps
+          ∷ S16 (signedWithin 255)  -- microsteps
+          ∷ S64 any  -- encoder counts
+          ∷ U8 (onlyBits 0x03)  -- flags
+          ∷ [];
+      reserved = 5;
+    }
+
+abbrev pub gposRow : Row
+gposRow =
+    record {
+      number = 10;
+      fields =
+          S32 any  -- steps
+          ∷ S16 (signedWithin 255)  -- microsteps
+          ∷ S64 any  -- encoder counts
+          ∷ [];
+      reserved = 6;
+    }
+
 -- the blocks that a board keeps
 abbrev pub sheet : List Row
 sheet = movRow ∷ engRow ∷ pwrRow ∷ edsRow ∷ homRow ∷ brkRow ∷ pidRow ∷ []
@@ -220,3 +265,16 @@ setTable = smov ∷ seng ∷ spwr ∷ seds ∷ shom ∷ sbrk ∷ spid ∷ []
 
 abbrev pub getTable : List Command
 getTable = gmov ∷ geng ∷ gpwr ∷ geds ∷ ghom ∷ gbrk ∷ gpid ∷ []
+
+-- the sets of 02, P5, and the get of the position
+abbrev pub move : Command
+move = record { name = named "move"; row = moveRow }
+
+abbrev pub movr : Command
+movr = record { name = named "movr"; row = movrRow }
+
+abbrev pub spos : Command
+spos = record { name = named "spos"; row = sposRow }
+
+abbrev pub gpos : Command
+gpos = record { name = named "gpos"; row = gposRow }

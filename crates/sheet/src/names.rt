@@ -1,4 +1,4 @@
-// The names of 01 that belong to no block: the seven orders and the three refusals. The first letter is the low byte.
+// The names that belong to no block: 01's seven orders and three refusals, and 02's zero. The first letter is the low byte.
 pub const STOP: u32 = 0x706f7473;
 
 pub const SSTP: u32 = 0x70747373;
@@ -18,3 +18,5 @@ pub const ERRC: u32 = 0x63727265;
 pub const ERRD: u32 = 0x64727265;
 
 pub const ERRV: u32 = 0x76727265;
+
+pub const ZERO: u32 = 0x6f72657a;

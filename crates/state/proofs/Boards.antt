@@ -6,6 +6,7 @@ use Prim.Native.Nat.{ℕ, _<_, _≤_}
 use native.Mathlib.Omega.{arith}
 use lib.ListN.{length, take, length-take}
 use borrow.Author.Tests.{le-leb, lt-leb}
+use Rattle.position.specs.Position.{soundPosition}
 use Rattle.settings.specs.Settings.{allGood}
 use Rattle.sheet.specs.Lengths.{longestFrame}
 use Rattle.rule.specs.Rule.{State}
@@ -18,7 +19,6 @@ use Rattle.unit.proofs.Sound as sound
 use Rattle.state.specs.State.{stateOf, boardOf}
 use Rattle.state.specs.Sound.{soundBoard, refusalOf, wantedBy, verdictOf}
 use Rattle.state.specs.declared.Board.{Board}
-use Rattle.state.specs.declared.Verdict.{Verdict}
 use Rattle.state.proofs.Padded.{padded-take}
 use Rattle.state.proofs.fresh.Reads as fresh
 
@@ -45,7 +45,7 @@ refusal-sound b z = by (soundBoard b) z
 pub wants-sound : (b : Board) → soundBoard b ≡ true → verdictOf b .wants ≡ need (take (b .count) (b .held))
 wants-sound b h = rw h
 
--- the verdict, by the three tests in their sequence
+-- the verdict, by its tests in their sequence
 module _ (b : Board) where
   abbrev u : List ℕ
   u = take (b .count) (b .held)
@@ -70,13 +70,18 @@ module _ (b : Board) where
     unfolding soundState soundMemory
     judged-flags h = rw (is-begun, lt-leb _ _ h)
 
-    pub judged-settings : b .memory .notes .flags ≤ 7 → allGood (b .memory .settings) ≡ false → verdictOf b ≡ record { number = 3; wants = 0 }
-    unfolding soundState soundMemory
-    judged-settings h g = rw (is-begun, le-leb _ _ h, g)
+    module _ (flags : b .memory .notes .flags ≤ 7) where
+      pub judged-position : soundPosition (b .memory .position) ≡ false → verdictOf b ≡ record { number = 3; wants = 0 }
+      unfolding soundState soundMemory
+      judged-position p = rw (is-begun, le-leb _ _ flags, p)
 
-    pub judged-sound : b .memory .notes .flags ≤ 7 → allGood (b .memory .settings) ≡ true → verdictOf b ≡ record { number = 0; wants = wantedBy u }
-    unfolding soundState soundMemory
-    judged-sound h g = rw (is-begun, le-leb _ _ h, g)
+      pub judged-settings : soundPosition (b .memory .position) ≡ true → allGood (b .memory .settings) ≡ false → verdictOf b ≡ record { number = 3; wants = 0 }
+      unfolding soundState soundMemory
+      judged-settings p g = rw (is-begun, le-leb _ _ flags, p, g)
+
+      pub judged-sound : soundPosition (b .memory .position) ≡ true → allGood (b .memory .settings) ≡ true → verdictOf b ≡ record { number = 0; wants = wantedBy u }
+      unfolding soundState soundMemory
+      judged-sound p g = rw (is-begun, le-leb _ _ flags, p, g)
 
 -- "A fresh board is sound"
 pub fresh-sound : (κs : _) (a : _) (b s : _) → fresh.Post κs a b s → soundBoard b ≡ true

@@ -11,7 +11,7 @@ use Rattle.state.specs.declared.Board.{Board}
 use Rattle.state.specs.declared.Verdict.{Verdict}
 
 -- "A state is sound when its unfinished bytes are none or a true beginning of one unit .., every field lies in its range, the floats are finite, and
--- the flags are at most 7." Spare bytes are no cause
+-- the flags are at most 7."; "In a sound state the position's microsteps lie in -255..255." (02, P5) Spare bytes are no cause
 abbrev pub soundBoard : Board → Bool
 soundBoard b = soundState (stateOf b)
 

@@ -1,5 +1,6 @@
 // The board: what it keeps between calls, when that is sound, and how it starts.
 use names::Order;
+use position::Position;
 use settings::Settings;
 use unit::Memory;
 use unit::Notes;
@@ -28,6 +29,13 @@ pub struct Call {
     pub written: usize,
     pub number: u8,
     pub order: Order,
+}
+
+// What a report answers.
+#[repr(C)]
+pub struct Report {
+    pub number: u8,
+    pub board: Board,
 }
 
 // What every public entry answers to a board, 0, or 3 where its state is not sound; and how long the unit is that a sound board has begun, as far
@@ -71,9 +79,12 @@ pub fn judge(board: Board) -> Verdict
     if wants != 0 {
         if board.memory.notes.flags <= 7 {
             let memory = board.memory;
-            let settings = memory.settings;
-            if settings.all_good() {
-                return Verdict { number: 0, wants };
+            let position = memory.position;
+            if position.first_bad() == 0 {
+                let settings = memory.settings;
+                if settings.all_good() {
+                    return Verdict { number: 0, wants };
+                }
             }
         }
     }
@@ -107,6 +118,7 @@ pub fn fresh() -> Board
     let memory = Memory {
         settings: Settings::fresh(),
         notes,
+        position: Position::fresh(),
     };
     idle(memory, 0)
 }

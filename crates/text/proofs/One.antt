@@ -5,6 +5,7 @@ use Rattle.text.proofs.write_byte.Reads as write-byte
 use Rattle.text.proofs.write_text.Reads as write-text
 use Rattle.text.proofs.write_decimal.Reads as write-decimal
 use Rattle.text.proofs.write_number.Reads as write-number
+use Rattle.text.proofs.write_signed.Reads as write-signed
 use Rattle.text.proofs.write_hex.Reads as write-hex
 use Rattle.text.proofs.write_reply.Reads as write-reply
 
@@ -31,6 +32,12 @@ write-number-one κs a r r' s s' p q = p .behind ∙ sym (q .behind)
 
 pub write-number-bytes-one : Leaves write-number.Post (λ κs r s. s .0 .now)
 write-number-bytes-one κs a r r' s s' p q = p .bytes ∙ sym (q .bytes)
+
+pub write-signed-one : Leaves write-signed.Post (λ κs r s. r)
+write-signed-one κs a r r' s s' p q = p .behind ∙ sym (q .behind)
+
+pub write-signed-bytes-one : Leaves write-signed.Post (λ κs r s. s .0 .now)
+write-signed-bytes-one κs a r r' s s' p q = p .bytes ∙ sym (q .bytes)
 
 pub write-hex-one : Leaves write-hex.Post (λ κs r s. r)
 write-hex-one κs a r r' s s' p q = p .behind ∙ sym (q .behind)

@@ -8,11 +8,15 @@ use native.Mathlib.Numerals.{add-one}
 use native.Mathlib.Omega.{arith}
 use borrow.Author.Tests.{leb-true, leb-false, ltb-true, ltb-false, lt-ltb, le-ltb}
 use lib.Dec.{eqb, leb, ltb}
+use lib.IntN.{ℤ, pos, negsuc}
 use lib.ListN.{length, getD, take, length-append}
 use lib.Seq.{sets, sets-eq, length-sets, take-suc, take-at, length-take-le}
+use mir.Syntax.{w64}
+use mir.Val.{SFits, toZ, ofZ}
 use Rattle.wire.proofs.Stores.{sets-append, sets-past}
+use Rattle.wire.proofs.Values.{back}
 use Rattle.wire.specs.Letters.{ascii}
-use Rattle.text.specs.Texts.{glyph, digits, decimal, hex, shown, Written}
+use Rattle.text.specs.Texts.{glyph, digits, decimal, signed, hex, shown, Written}
 
 -- ---- one text behind another
 
@@ -117,6 +121,36 @@ decimal-first n p h = digits-first 20 n p (omega arith)
 pub decimal-most : (n : ℕ) → length (decimal n) ≤ 20
 unfolding decimal
 decimal-most n = digits-most 20 n
+
+-- ---- signed, by the 64 bits that stand for a number
+
+bits-low : (n : ℕ) → n < 2 ^ 63 → signed (toZ w64 n) ≡ decimal n
+unfolding signed
+bits-low n h = rw (lt-ltb n (2 ^ 63) h)
+
+bits-high : (n : ℕ) → 2 ^ 63 ≤ n → signed (toZ w64 n) ≡ ascii "-" ++ decimal (18446744073709551615 - n + 1)
+unfolding signed
+bits-high n h = rw (le-ltb n (2 ^ 63) h) (ap (λ (k : ℕ). ascii "-" ++ decimal k) (omega arith))
+
+module _ (z : ℤ) (fits : SFits w64 z) (n : ℕ) (bits : n ≡ ofZ w64 (toZ w64 (ofZ w64 z))) where
+  of-bits : signed z ≡ signed (toZ w64 n)
+  of-bits = let e = back w64 z (fits .sfits) in sym (ap signed (ap (toZ w64) (bits ∙ ap (ofZ w64) e) ∙ e))
+
+  pub signed-low : n < 2 ^ 63 → signed z ≡ decimal n
+  signed-low h = of-bits ∙ bits-low n h
+
+  pub signed-high : 2 ^ 63 ≤ n → signed z ≡ ascii "-" ++ decimal (18446744073709551615 - n + 1)
+  signed-high h = of-bits ∙ bits-high n h
+
+-- the least number of 64 bits
+pub signed-least : signed (toZ w64 9223372036854775808) ≡ ascii "-9223372036854775808"
+unfolding signed decimal digits
+signed-least = refl
+
+pub signed-most : (z : ℤ) → length (signed z) ≤ 21
+unfolding signed
+signed-most (pos n) = omega (arith, decimal-most n)
+signed-most (negsuc n) = omega (arith, decimal-most (suc n))
 
 -- ---- hexadecimal
 

@@ -4,6 +4,7 @@ use mathlib.Core.List.{List, [], _∷_, _++_}
 use mathlib.Core.Path.{_≡_}
 use Prim.Native.Nat.{ℕ, zero, suc, _+_, _/_, _%_, min}
 use lib.Dec.{eqb, ltb}
+use lib.IntN.{ℤ, pos, negsuc}
 use lib.ListN.{length}
 use lib.Seq.{sets}
 use Rattle.wire.specs.Letters.{ascii}
@@ -20,6 +21,11 @@ digits (suc f) n = cond (ltb n 10) ((48 + n) ∷ []) (digits f (n / 10) ++ (48 +
 -- "numbers in decimal": a number of 64 bits has at most 20 digits
 unfoldable pub decimal : ℕ → List ℕ
 decimal n = digits 20 n
+
+-- a signed number: the decimal of its magnitude, a minus sign before it where it is negative
+unfoldable pub signed : ℤ → List ℕ
+signed (pos n) = decimal n
+signed (negsuc n) = ascii "-" ++ decimal (suc n)
 
 -- "lower-case hexadecimal": two digits a byte
 unfoldable pub hex : List ℕ → List ℕ

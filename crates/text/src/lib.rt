@@ -3,7 +3,7 @@
 ghost use mathlib.Core.List.{[], _∷_, _++_};
 ghost use mathlib.Core.Path.{_≡_};
 ghost use Prim.Native.Nat.{_<_};
-ghost use Rattle.text.specs.Texts.{glyph, decimal, hex, shown, Written};
+ghost use Rattle.text.specs.Texts.{glyph, decimal, signed, hex, shown, Written};
 
 pub fn write_byte(out: &mut [u8], at: usize, b: u8) -> usize
     ensures { λ r. ⌜ Written (now (out .entry)) at (b ∷ []) r (now (out .exit)) ⌝ }
@@ -44,6 +44,18 @@ pub fn write_number(out: &mut [u8], at: usize, n: u64, end: u8) -> usize
 {
     let last = write_decimal(out, at, n);
     write_byte(out, last, end)
+}
+
+// The magnitude of a negative number is what its bits lack of 2^64.
+pub fn write_signed(out: &mut [u8], at: usize, z: i64) -> usize
+    ensures { λ r. ⌜ Written (now (out .entry)) at (signed z) r (now (out .exit)) ⌝ }
+{
+    let n = wire::u64_of(z);
+    if n < 9223372036854775808 {
+        return write_decimal(out, at, n);
+    }
+    let first = write_byte(out, at, b'-');
+    write_decimal(out, first, 18446744073709551615 - n + 1)
 }
 
 // A digit below 16.

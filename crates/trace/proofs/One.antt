@@ -2,12 +2,19 @@
 use mathlib.Core.Path.{sym, _∙_}
 use Rattle.promise.specs.Promise.{Leaves}
 use Rattle.trace.proofs.read_record.Reads as read-record
+use Rattle.trace.proofs.write_order.Reads as write-order
 use Rattle.trace.proofs.write_line.Reads as write-line
 use Rattle.trace.proofs.write_bad.Reads as write-bad
 use Rattle.trace.proofs.write_end.Reads as write-end
 
 pub read-record-one : Leaves read-record.Post (λ κs r s. r)
 read-record-one κs a r r' s s' p q = p ∙ sym q
+
+pub write-order-one : Leaves write-order.Post (λ κs r s. r)
+write-order-one κs a r r' s s' p q = p .behind ∙ sym (q .behind)
+
+pub write-order-bytes-one : Leaves write-order.Post (λ κs r s. s .0 .now)
+write-order-bytes-one κs a r r' s s' p q = p .bytes ∙ sym (q .bytes)
 
 pub write-line-one : Leaves write-line.Post (λ κs r s. r)
 write-line-one κs a r r' s s' p q = p .behind ∙ sym (q .behind)

@@ -2,20 +2,24 @@
 use mathlib.Core.Path.{_≡_, refl, ap, _∙_}
 use mathlib.Core.List.{List}
 use Prim.Native.Nat.{ℕ, _-_, _≤_}
+use native.Mathlib.Omega.{arith}
 use lib.ListN.{length, take}
 use lib.Seq.{sets}
 use Rattle.frame.specs.Frame.{framed}
 use Rattle.sheet.specs.Lengths.{longestFrame}
-use Rattle.sheet.specs.Sheet.{getTable}
-use Rattle.sheet.specs.Rows.{rowAt, total}
+use Rattle.sheet.specs.Sheet.{getTable, gposRow}
+use Rattle.sheet.specs.Rows.{rowAt, total, dataOf}
 use Rattle.sheet.proofs.Laws.{aside-fits, aside-front}
 use Rattle.sheet.proofs.Table.{total-most}
+use Rattle.position.specs.Position.{positionNumbers}
 use Rattle.settings.specs.Settings.{dataAt, numbersAt}
 use Rattle.names.specs.Names.{totalIn}
 use Rattle.names.specs.declared.Order.the-variants.{Nothing}
 use Rattle.names.proofs.Lengths.{get-total}
-use Rattle.unit.specs.Unit.{gets, Judges}
+use Rattle.unit.specs.Unit.{gets, finds, Judges}
 use Rattle.unit.specs.declared.Memory.{Memory}
+
+-- ---- a block's get
 
 module _ (m : Memory) (k n : ℕ) (looked : n ≡ totalIn getTable k) (zs section : List ℕ) (room : longestFrame ≡ length zs)
     (laid : section ≡ sets zs 0 (dataAt (m .settings) k)) where
@@ -35,4 +39,26 @@ module _ (m : Memory) (k n : ℕ) (looked : n ≡ totalIn getTable k) (zs sectio
             e
             ∙ ap (λ (d : List ℕ). sets before 0 (framed name d))
             (aside-front (rowAt k) (numbersAt (m .settings) k) n is (total-most k) zs section room laid);
+      }
+
+-- ---- gpos: its frame is no longer than any
+
+pub position-most : total gposRow ≤ longestFrame
+position-most = omega arith
+
+module _ (m : Memory) (zs section : List ℕ) (room : longestFrame ≡ length zs)
+    (laid : section ≡ sets zs 0 (dataOf gposRow (positionNumbers (m .position)))) where
+  pub position-room : 20 ≤ length section
+  position-room = aside-fits gposRow (positionNumbers (m .position)) 26 refl position-most zs section room laid
+
+  pub says-found : (name : ℕ) (before after : List ℕ) → after ≡ sets before 0 (framed name (take 20 section))
+      → Judges (finds m name) before (record { order = Nothing; memory = m }) after
+  unfolding finds
+  says-found name before after e =
+      record {
+        result = refl;
+        reply =
+            e
+            ∙ ap (λ (d : List ℕ). sets before 0 (framed name d))
+            (aside-front gposRow (positionNumbers (m .position)) 26 refl position-most zs section room laid);
       }

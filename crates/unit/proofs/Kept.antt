@@ -17,22 +17,22 @@ use Rattle.rule.specs.Rule.{Said, deal}
 use Rattle.names.specs.Names.{kindAt, nameIn, numbersOf, namesOf}
 use Rattle.names.specs.declared.Order.{Order}
 use Rattle.names.specs.declared.Kind.{Kind}
-use Rattle.names.specs.declared.Kind.the-variants.{Zero, Set, Get, Gives, Unknown}
+use Rattle.names.specs.declared.Kind.the-variants.{Zero, Set, Get, Gives, Moves, Places, Finds, Clears, Unknown}
 use Rattle.names.proofs.Named.{set-unit}
-use Rattle.unit.specs.Unit.{Event, gets, stored, does, act}
+use Rattle.unit.specs.Unit.{Event, clock, position, checked, puts, gets, stored, moves, places, finds, does, act}
 use Rattle.unit.specs.Protocol.{protocol}
 use Rattle.unit.specs.Kept.{Refused, errc, errd, errv, Accepts, Ends, stores, keeps, Echoed, Takes, Without}
 use Rattle.unit.specs.declared.Memory.{Memory}
-use Rattle.unit.proofs.Sets.{puts-damaged, puts-refused, puts-stored}
+use Rattle.unit.proofs.Sets.{checked-damaged, checked-refused, checked-done, checked-cases}
 use Rattle.unit.proofs.Replies.{act-kind}
 
 -- ---- accepted sets
 
 -- it is stored, "and the set name is the reply"
 pub accepted : (m : Memory) (u : List ℕ) (k : ℕ) → Accepts m u k → act m (whole u) ≡ stored m (nameIn setTable k) k (dataIn u)
-unfolding does
+unfolding does puts
 accepted m u k a =
-    act-kind m u (Set k) (a .kind) ∙ puts-stored m k u (a .crc) (a .good)
+    act-kind m u (Set k) (a .kind) ∙ checked-done m u k _ _ (a .crc) (a .good)
     ∙ ap (λ (n : ℕ). stored m n k (dataIn u)) (set-unit u k (a .kind))
 
 -- a refusal begins with the letter e, and no set name does
@@ -63,16 +63,16 @@ module _ (m : Memory) (u : List ℕ) where
     refuses : Refused (act m (whole u) .reply) → Keeps → SetEnds k
 
   set-ends : (k : ℕ) → kindAt u ≡ Set k → SetEnds k
-  unfolding does
+  unfolding does puts
   set-ends k e = by (intact u) (eqb (badAt (putAt (m .settings) k (dataIn u)) k) 0) refl refl
     where
       by : (b c : Bool) → intact u ≡ b → eqb (badAt (putAt (m .settings) k (dataIn u)) k) 0 ≡ c → SetEnds k
       by true true i g = accepts (record { kind = e; crc = i; good = eqb-true _ 0 g })
       by true false i g =
-          let said = act-kind m u (Set k) e ∙ puts-refused m k u i (eqb-false _ 0 g) in
+          let said = act-kind m u (Set k) e ∙ checked-refused m u k _ _ i (eqb-false _ 0 g) in
           refuses (errv (ap (λ (x : Said Order Memory). x .reply) said)) (same _ said refl)
       by false c i g =
-          let said = act-kind m u (Set k) e ∙ puts-damaged m k u i in
+          let said = act-kind m u (Set k) e ∙ checked-damaged m u k _ _ i in
           refuses (errd (ap (λ (x : Said Order Memory). x .reply) said)) (same _ said refl)
 
   -- A SET WHOSE REPLY WAS ITS OWN NAME WAS ACCEPTED, and an accepted one is echoed
@@ -86,8 +86,12 @@ module _ (m : Memory) (u : List ℕ) where
   pub accepts-echoed : (k : ℕ) → Accepts m u k → Echoed m u k
   accepts-echoed k a = record { kind = a .kind; reply = ap (λ (x : Said Order Memory). x .reply) (accepted m u k a) }
 
+  -- what is checked as a set is keeps the settings, if it does so where all is well
+  checked-keeps : (k bad : ℕ) (done : Said Order Memory) → done .next .settings ≡ m .settings → checked m u k bad done .next .settings ≡ m .settings
+  checked-keeps k bad done e = checked-cases m u k bad done (λ (a : Said Order Memory). a .next .settings ≡ m .settings) refl refl (λ _. e)
+
   unit-kind : (κ : Kind) → kindAt u ≡ κ → Ends m u
-  unfolding does gets Keeps
+  unfolding does gets moves places finds Keeps
   unit-kind Zero e = keeps (same _ (act-kind m u Zero e) refl)
   unit-kind (Set k) e = by (set-ends k e)
     where
@@ -96,6 +100,10 @@ module _ (m : Memory) (u : List ℕ) where
       by (refuses r h) = keeps h
   unit-kind (Get k) e = keeps (same _ (act-kind m u (Get k) e) refl)
   unit-kind (Gives o) e = keeps (same _ (act-kind m u (Gives o) e) refl)
+  unit-kind (Moves k) e = keeps (same _ (act-kind m u (Moves k) e) (checked-keeps _ _ _ refl))
+  unit-kind Places e = keeps (same _ (act-kind m u Places e) (checked-keeps _ _ _ refl))
+  unit-kind Finds e = keeps (same _ (act-kind m u Finds e) refl)
+  unit-kind Clears e = keeps (same _ (act-kind m u Clears e) refl)
   unit-kind Unknown e = keeps (same _ (act-kind m u Unknown e) refl)
 
   -- WHAT A UNIT DOES TO THE SETTINGS: it is an accepted set, or it alters none
@@ -131,7 +139,8 @@ kept-one m (whole u) k out = by (unit-ends m u)
         ∙ get-other (m .settings) k j (dataIn u) (λ e. out (accepts-echoed m u k (rw e a)))
     by (keeps e) = ap (λ s. dataAt s k) e
 kept-one m (lost u) k out = refl
-kept-one m (seen e) k out = refl
+kept-one m (seen (clock now)) k out = refl
+kept-one m (seen (position p)) k out = refl
 
 -- over any number of them
 pub kept : (k : ℕ) (ks : List (Token Event)) (m : Memory) → Without k m ks → dataAt (deal protocol m ks .next .settings) k ≡ dataAt (m .settings) k

@@ -6,5 +6,7 @@ pub mod Kept
 pub mod Settings
 pub mod Flags
 pub mod Runs
+pub mod Events
+pub mod Touched
 pub mod Cases
 pub mod One

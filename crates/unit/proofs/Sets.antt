@@ -1,23 +1,17 @@
--- What a set's checks come to, in their sequence. Assumes nothing.
-use mathlib.Core.Path.{_≡_, refl, sym, ap, _∙_}
+-- What a set's checks come to, in their sequence, whatever the set: once for every command that is checked as a set is. Assumes nothing.
+use mathlib.Core.Path.{_≡_, sym, ap, _∙_, subst}
 use mathlib.Core.Bool.{true, false}
 use mathlib.Core.List.{List}
 use Prim.Native.Nat.{ℕ, _-_}
 use native.Mathlib.Omega.{arith}
+use lib.Dec.{eqb}
 use lib.ListN.{length, take, drop}
-use lib.Bits.{bitOr}
-use lib.Seq.{sets}
-use borrow.Author.Tests.{eq-eqb, ne-eqb}
-use Rattle.wire.specs.Numbers.{leBytes}
+use borrow.Author.Tests.{eq-eqb, ne-eqb, eqb-true}
 use Rattle.frame.specs.Frame.{dataIn, intact}
-use Rattle.sheet.specs.Names.{named}
-use Rattle.settings.specs.declared.Settings.{Settings}
-use Rattle.settings.specs.Settings.{putAt, badAt}
 use Rattle.rule.specs.Rule.{Said}
-use Rattle.names.specs.Names.{nameOf}
+use Rattle.rule.proofs.Choice.{eitherBy, either}
 use Rattle.names.specs.declared.Order.{Order}
-use Rattle.names.specs.declared.Order.the-variants.{Nothing}
-use Rattle.unit.specs.Unit.{flag, puts, checked, damaged, outOfRange, stored, Judges}
+use Rattle.unit.specs.Unit.{checked, damaged, outOfRange, Judges}
 use Rattle.unit.specs.declared.Memory.{Memory}
 use Rattle.unit.specs.declared.Judged.{Judged}
 
@@ -25,40 +19,35 @@ use Rattle.unit.specs.declared.Judged.{Judged}
 pub answered-as : {a : Said Order Memory} {before after : List ℕ} {d e : Judged} → d ≡ e → Judges a before e after → Judges a before d after
 answered-as p j = record { result = p ∙ j .result; reply = j .reply }
 
-module _ (m : Memory) (k : ℕ) (u : List ℕ) where
-  abbrev bad : ℕ
-  bad = badAt (putAt (m .settings) k (dataIn u)) k
+-- the part of a unit that the code hands on is its data section
+pub section-is : (u : List ℕ) → take (length u - 2 - 4) (drop 4 u) ≡ dataIn u
+section-is u = let n : length u - 2 - 4 ≡ length u - 6 = omega arith in ap (λ (j : ℕ). take j (drop 4 u)) n
 
-  pub puts-damaged : intact u ≡ false → puts m k u ≡ damaged m
-  unfolding puts
-  puts-damaged e = rw e
+module _ (m : Memory) (u : List ℕ) (k bad : ℕ) (done : Said Order Memory) where
+  pub checked-damaged : intact u ≡ false → checked m u k bad done ≡ damaged m
+  unfolding checked
+  checked-damaged e = rw e
 
-  pub puts-refused : intact u ≡ true → (bad ≡ 0 → ⊥) → puts m k u ≡ outOfRange m k bad
-  unfolding puts checked
-  puts-refused e h = rw (e, ne-eqb bad 0 h)
+  pub checked-refused : intact u ≡ true → (bad ≡ 0 → ⊥) → checked m u k bad done ≡ outOfRange m k bad
+  unfolding checked
+  checked-refused e h = rw (e, ne-eqb bad 0 h)
 
-  pub puts-stored : intact u ≡ true → bad ≡ 0 → puts m k u ≡ stored m (nameOf u) k (dataIn u)
-  unfolding puts checked
-  puts-stored e h = rw (e, eq-eqb bad 0 h)
+  pub checked-done : intact u ≡ true → bad ≡ 0 → checked m u k bad done ≡ done
+  unfolding checked
+  checked-done e h = rw (e, eq-eqb bad 0 h)
 
-  -- the code's part of the unit, what it puts there, and the field it finds
-  module _ (next : Settings) (is : next ≡ putAt (m .settings) k (take (length u - 2 - 4) (drop 4 u))) where
-    pub next-is : next ≡ putAt (m .settings) k (dataIn u)
-    next-is = let n : length u - 2 - 4 ≡ length u - 6 = omega arith in is ∙ ap (λ (j : ℕ). putAt (m .settings) k (take j (drop 4 u))) n
-
-    pub found-is : (n : ℕ) → n ≡ badAt next k → n ≡ bad
-    found-is n e = e ∙ ap (λ (s : Settings). badAt s k) next-is
+  -- its CRC is wrong, a field is out of its range, or all is well
+  pub checked-cases : (P : Said Order Memory → Type 0) → P (damaged m) → P (outOfRange m k bad) → (bad ≡ 0 → P done) → P (checked m u k bad done)
+  unfolding checked
+  checked-cases P wrong out good = either P (intact u) _ _ (eitherBy P (eqb bad 0) _ _ (λ e. good (eqb-true bad 0 e)) (λ _. out)) wrong
 
   -- the code's three answers
-  module _ (before after : List ℕ) where
-    pub says-damaged : (n : Memory) → intact u ≡ false → n ≡ flag 2 m → after ≡ sets before 0 (leBytes 4 (named "errd"))
-        → Judges (puts m k u) before (record { order = Nothing; memory = n }) after
-    says-damaged n e f r = rw (puts-damaged e, f) (record { result = refl; reply = r })
+  module _ {before after : List ℕ} {d : Judged} where
+    pub says-damaged : intact u ≡ false → Judges (damaged m) before d after → Judges (checked m u k bad done) before d after
+    says-damaged e j = subst (λ (a : Said Order Memory). Judges a before d after) (sym (checked-damaged e)) j
 
-    pub says-refused : (n : ℕ) → intact u ≡ true → n ≡ bad → (n ≡ 0 → ⊥) → after ≡ sets before 0 (leBytes 4 (named "errv"))
-        → Judges (puts m k u) before (record { order = Nothing; memory = record { settings = m .settings; notes = record { flags = bitOr (m .notes .flags) 4; block = k; field = n } } }) after
-    says-refused n e f h r = rw (puts-refused e (λ z. h (f ∙ z)), f) (record { result = refl; reply = r })
+    pub says-refused : (n : ℕ) → n ≡ bad → intact u ≡ true → (n ≡ 0 → ⊥) → Judges (outOfRange m k n) before d after → Judges (checked m u k bad done) before d after
+    says-refused n f e h j = subst (λ (a : Said Order Memory). Judges a before d after) (ap (outOfRange m k) f ∙ sym (checked-refused e (λ z. h (f ∙ z)))) j
 
-    pub says-stored : (next : Settings) (n : ℕ) → intact u ≡ true → next ≡ putAt (m .settings) k (dataIn u) → n ≡ bad → n ≡ 0 → after ≡ sets before 0 (leBytes 4 (nameOf u))
-        → Judges (puts m k u) before (record { order = Nothing; memory = record { settings = next; notes = m .notes } }) after
-    says-stored next n e is f h r = rw (puts-stored e (sym f ∙ h), is) (record { result = refl; reply = r })
+    pub says-done : (n : ℕ) → n ≡ bad → intact u ≡ true → n ≡ 0 → Judges done before d after → Judges (checked m u k bad done) before d after
+    says-done n f e h j = subst (λ (a : Said Order Memory). Judges a before d after) (sym (checked-done e (sym f ∙ h))) j

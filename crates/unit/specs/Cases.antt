@@ -1,16 +1,22 @@
 -- The starred cases of sheet 01, "Frames on the bench": all thirteen in one table. In quotation marks: 01. Behind them 02's P3, seven weeks of
--- standstill, in a table of its own.
+-- standstill, and 02's P5, positions and travel, in tables of their own.
 use mathlib.Core.Path.{_≡_}
 use mathlib.Core.List.{List, [], _∷_, _++_, map}
 use Prim.Native.Nat.{ℕ}
+use lib.IntN.{ℤ, pos, negsuc}
 use lib.ListN.{replicate}
 use Rattle.crc.specs.Crc.{crcOf}
 use Rattle.wire.specs.Letters.{ascii}
+use Rattle.position.specs.Position.{freshPosition}
+use Rattle.position.specs.declared.Travel.{Travel}
+use Rattle.position.specs.declared.Position.{Position}
 use Rattle.settings.specs.Settings.{numbersAt}
 use Rattle.rule.specs.Run.{Item, event, at}
 use Rattle.rule.specs.Rule.{wholeRun}
 use Rattle.names.specs.Names.{orderNumber}
-use Rattle.unit.specs.Unit.{Event, clock, freshMemory}
+use Rattle.names.specs.declared.Order.{Order}
+use Rattle.names.specs.declared.Order.the-variants.{Move, Movr}
+use Rattle.unit.specs.Unit.{Event, clock, position, freshMemory}
 use Rattle.unit.specs.Protocol.{protocol}
 
 -- ---- what a case says
@@ -40,14 +46,17 @@ outcome run k =
       holds = numbersAt (a .next .memory .settings) k;
     }
 
--- bytes and their CRC; or a run on a fresh board, a block to look at, and what the run comes to
+-- bytes and their CRC; a run on a fresh board, a block to look at, and what the run comes to; or such a run, the whole reply, the orders, and the
+-- position where it ends
 pub data Case : Type 0 where
   crc : List ℕ → ℕ → Case
   frame : List (Item Event) → ℕ → Outcome → Case
+  travel : List (Item Event) → List ℕ → List Order → Position → Case
 
 abbrev pub Holds : Case → Type 0
 Holds (crc bytes register) = crcOf bytes ≡ register
 Holds (frame run k o) = outcome run k ≡ o
+Holds (travel run reply orders p) = let a = wholeRun protocol freshMemory 0 run in (a .reply ≡ reply) × (a .orders ≡ orders) × (a .next .memory .position ≡ p)
 
 -- every case of a table holds
 pub data Each : List Case → Type 0 where
@@ -135,4 +144,44 @@ reports =
     ∷ frame (standstill 4294967200 (event (clock 305) ∷ []) 4) 1 cutShort
     -- `Watched` bounds the time between reports sharply: 400 ms, and then 2^32 - 400 ms with no report, are a turn of the counter
     ∷ frame (standstill 0 (event (clock 400) ∷ []) 0) 1 resumed
+    ∷ []
+
+-- ---- positions and travel (02, P5)
+
+-- steps, microsteps and count
+abbrev pub standing : ℤ → ℤ → ℤ → Position
+standing steps microsteps count = record { steps = record { 0 = steps }; microsteps = record { 0 = microsteps }; count = record { 0 = count } }
+
+abbrev pub far : ℤ → ℤ → Travel
+far steps microsteps = record { steps = record { 0 = steps }; microsteps = record { 0 = microsteps } }
+
+-- where it stands before each spos and zero: 5 steps, -3 microsteps, a count of 7
+abbrev pub stood : Item Event
+stood = event (position (standing (pos 5) (negsuc 2) (pos 7)))
+
+-- a spos of 10 steps, -255 microsteps and a count of -1, with these flags and this CRC
+abbrev pub spos : ℕ → List ℕ → List (Item Event)
+spos flags check =
+    at 0 (ascii "spos" ++ (0x0A ∷ 0x00 ∷ 0x00 ∷ 0x00 ∷ 0x01 ∷ 0xFF ∷ (replicate 8 0xFF ++ (flags ∷ zeros 5 ++ check))))
+
+abbrev pub travels : List Case
+travels =
+    -- 004's worked movr frame carries the CRC of other bytes; and with its own
+    travel (at 0 (ascii "movr" ++ (0xC8 ∷ zeros 11 ++ (0x53 ∷ 0xC7 ∷ [])))) (ascii "errd") [] freshPosition
+    ∷ travel (at 0 (ascii "movr" ++ (0xC8 ∷ zeros 11 ++ (0x86 ∷ 0x9C ∷ [])))) (ascii "movr") (Movr (far (pos 200) (pos 0)) ∷ []) freshPosition
+    -- a move to -1 steps and 255 microsteps stores nothing; to 256 microsteps it is refused
+    ∷ travel (at 0 (ascii "move" ++ (0xFF ∷ 0xFF ∷ 0xFF ∷ 0xFF ∷ 0xFF ∷ 0x00 ∷ zeros 6 ++ (0x3F ∷ 0x03 ∷ [])))) (ascii "move")
+    (Move (far (negsuc 0) (pos 255)) ∷ []) freshPosition
+    ∷ travel (at 0 (ascii "move" ++ (0xFF ∷ 0xFF ∷ 0xFF ∷ 0xFF ∷ 0x00 ∷ 0x01 ∷ zeros 6 ++ (0x60 ∷ 0xC7 ∷ [])))) (ascii "errv") [] freshPosition
+    -- a report inside gpos acts before its end
+    ∷ travel (at 0 (ascii "gp") ++ (stood ∷ at 0 (ascii "os")))
+    (ascii "gpos" ++ (0x05 ∷ 0x00 ∷ 0x00 ∷ 0x00 ∷ 0xFD ∷ 0xFF ∷ 0x07 ∷ zeros 13 ++ (0xD1 ∷ 0x18 ∷ []))) [] (standing (pos 5) (negsuc 2) (pos 7))
+    -- spos by its flags
+    ∷ travel (stood ∷ spos 0x00 (0x3D ∷ 0x6F ∷ [])) (ascii "spos") [] (standing (pos 10) (negsuc 254) (negsuc 0))
+    ∷ travel (stood ∷ spos 0x01 (0x3C ∷ 0xBE ∷ [])) (ascii "spos") [] (standing (pos 5) (negsuc 2) (negsuc 0))
+    ∷ travel (stood ∷ spos 0x02 (0x3C ∷ 0x8D ∷ [])) (ascii "spos") [] (standing (pos 10) (negsuc 254) (pos 7))
+    ∷ travel (stood ∷ spos 0x03 (0x3D ∷ 0x5C ∷ [])) (ascii "spos") [] (standing (pos 5) (negsuc 2) (pos 7))
+    ∷ travel (stood ∷ spos 0x04 (0x3C ∷ 0xEB ∷ [])) (ascii "errv") [] (standing (pos 5) (negsuc 2) (pos 7))
+    -- zero keeps the count
+    ∷ travel (stood ∷ at 0 (ascii "zero")) (ascii "zero") [] (standing (pos 0) (pos 0) (pos 7))
     ∷ []

@@ -9,29 +9,50 @@ use lib.Seq.{sets}
 use Rattle.wire.specs.Numbers.{leBytes}
 use Rattle.frame.specs.Frame.{framed, dataIn, intact}
 use Rattle.sheet.specs.Names.{named}
+use Rattle.sheet.specs.Sheet.{moveRow, sposRow, gposRow}
+use Rattle.sheet.specs.Rows.{numbersIn, dataOf, firstBad}
+use Rattle.position.specs.Position.{travelOf, travelNumbers, sposOf, sposNumbers, positionNumbers, freshPosition, cleared, placed}
+use Rattle.position.specs.declared.Travel.{Travel}
+use Rattle.position.specs.declared.Position.{Position}
 use Rattle.settings.specs.Settings.{dataAt, putAt, badAt, freshSettings}
 use Rattle.rule.specs.Framing.{Token, whole, lost, seen}
 use Rattle.rule.specs.Rule.{Said, quiet}
 use Rattle.names.specs.Names.{kindAt, nameOf}
 use Rattle.names.specs.declared.Order.{Order}
-use Rattle.names.specs.declared.Order.the-variants.{Nothing}
+use Rattle.names.specs.declared.Order.the-variants.{Nothing, Move, Movr}
 use Rattle.names.specs.declared.Kind.{Kind}
-use Rattle.names.specs.declared.Kind.the-variants.{Zero, Set, Get, Gives, Unknown}
+use Rattle.names.specs.declared.Kind.the-variants.{Zero, Set, Get, Gives, Moves, Places, Finds, Clears, Unknown}
 use Rattle.unit.specs.declared.Memory.{Memory}
 use Rattle.unit.specs.declared.Judged.{Judged}
 
--- "Flags are clear, .. the last refused field is block 0 field 0."
+-- "Flags are clear, .. the last refused field is block 0 field 0."; "the position, 0 when fresh" (02, P5)
 abbrev pub freshMemory : Memory
-freshMemory = record { settings = freshSettings; notes = record { flags = 0; block = 0; field = 0 } }
+freshMemory = record { settings = freshSettings; notes = record { flags = 0; block = 0; field = 0 }; position = freshPosition }
 
--- what comes in besides bytes: "The main loop may report the time at any moment, as an event of its own." (02, P3)
+-- what comes in besides bytes: "The main loop may report the time at any moment, as an event of its own." (02, P3); "The drive reports its position in
+-- a call of its own, which joins demand 3's run as an event" (02, P5)
 pub data Event : Type 0 where
   clock : ℕ → Event
+  position : Position → Event
+
+-- the memory with this position
+abbrev pub stands : Memory → Position → Memory
+stands m p = record { settings = m .settings; notes = m .notes; position = p }
+
+-- what an event leaves: a report of the time stores nothing, a report of the position the position
+abbrev pub told : Memory → Event → Memory
+told m (clock now) = m
+told m (position p) = stands m p
 
 -- ---- the answers
 
 abbrev pub flag : ℕ → Memory → Memory
-flag bit m = record { settings = m .settings; notes = record { flags = bitOr (m .notes .flags) bit; block = m .notes .block; field = m .notes .field } }
+flag bit m =
+    record {
+      settings = m .settings;
+      notes = record { flags = bitOr (m .notes .flags) bit; block = m .notes .block; field = m .notes .field };
+      position = m .position;
+    }
 
 -- "Unknown identifier: .. Reply errc, flag bit 1 (command error)."
 abbrev pub unknown : Memory → Said Order Memory
@@ -45,6 +66,8 @@ gets m name k = record { reply = framed name (dataAt (m .settings) k); orders = 
 abbrev pub gives : Memory → ℕ → Order → Said Order Memory
 gives m name o = record { reply = leBytes 4 name; orders = o ∷ []; next = m }
 
+-- ---- sets
+
 -- "Wrong CRC: reply errd, flag bit 2 (data error)."
 abbrev pub damaged : Memory → Said Order Memory
 damaged m = record { reply = leBytes 4 (named "errd"); orders = []; next = flag 2 m }
@@ -55,41 +78,73 @@ outOfRange m k bad =
     record {
       reply = leBytes 4 (named "errv");
       orders = [];
-      next = record { settings = m .settings; notes = record { flags = bitOr (m .notes .flags) 4; block = k; field = bad } };
+      next = record { settings = m .settings; notes = record { flags = bitOr (m .notes .flags) 4; block = k; field = bad }; position = m .position };
     }
+
+-- "Checks stand in this sequence: CRC, then fields in numbered order": what a set u of block k comes to, `bad` its first field out of range or 0, `done`
+-- what it says where all is well
+unfoldable pub checked : Memory → List ℕ → ℕ → ℕ → Said Order Memory → Said Order Memory
+checked m u k bad done = cond (intact u) (cond (eqb bad 0) done (outOfRange m k bad)) (damaged m)
 
 -- "Otherwise all fields are stored and the set name is the reply."
 abbrev pub stored : Memory → ℕ → ℕ → List ℕ → Said Order Memory
-stored m name k d = record { reply = leBytes 4 name; orders = []; next = record { settings = putAt (m .settings) k d; notes = m .notes } }
+stored m name k d =
+    record { reply = leBytes 4 name; orders = []; next = record { settings = putAt (m .settings) k d; notes = m .notes; position = m .position } }
 
--- "Checks stand in this sequence: CRC, then fields in numbered order": the fields are those of the block as it would be stored (of bytes, the
--- same as the numbers that came: settings, `bad-put`)
-unfoldable pub checked : Memory → ℕ → ℕ → List ℕ → Said Order Memory
-checked m name k d =
-    let bad = badAt (putAt (m .settings) k d) k in
-    cond (eqb bad 0) (stored m name k d) (outOfRange m k bad)
-
+-- a set of a block that the board keeps: the fields tested are those of the block as it would be stored (of bytes, the same as the numbers that came:
+-- settings, `bad-put`)
 unfoldable pub puts : Memory → ℕ → List ℕ → Said Order Memory
-puts m k u = cond (intact u) (checked m (nameOf u) k (dataIn u)) (damaged m)
+puts m k u = checked m u k (badAt (putAt (m .settings) k (dataIn u)) k) (stored m (nameOf u) k (dataIn u))
+
+-- ---- positions and travel; in quotation marks: 02, P5
+
+-- "Orders 8 and 9 carry their steps and microsteps"
+abbrev pub moveOrder : ℕ → Travel → Order
+moveOrder k t = cond (eqb k (moveRow .number)) (Move t) (Movr t)
+
+-- "All three are read and checked as sets are, ..; move and movr store nothing." (of bytes the tested numbers are those that came: position, Codec)
+unfoldable pub moves : Memory → ℕ → List ℕ → Said Order Memory
+moves m k u =
+    let t = travelOf (numbersIn moveRow (dataIn u)) in
+    checked m u k (firstBad moveRow (travelNumbers t)) (gives m (nameOf u) (moveOrder k t))
+
+-- an accepted spos is echoed, as a set is, and gives no order
+unfoldable pub places : Memory → List ℕ → Said Order Memory
+places m u =
+    let s = sposOf (numbersIn sposRow (dataIn u)) in
+    checked m u (sposRow .number) (firstBad sposRow (sposNumbers s))
+    (record { reply = leBytes 4 (nameOf u); orders = []; next = stands m (placed s (m .position)) })
+
+-- "gpos, which sends the position as it then stands"
+unfoldable pub finds : Memory → ℕ → Said Order Memory
+finds m name = record { reply = framed name (dataOf gposRow (positionNumbers (m .position))); orders = []; next = m }
+
+-- "zero is four bytes, echoed, and stops no call."; "zero gives no order."
+abbrev pub clears : Memory → ℕ → Said Order Memory
+clears m name = record { reply = leBytes 4 name; orders = []; next = stands m (cleared (m .position)) }
+
+-- ---- by the unit's kind
 
 -- "A first byte of zero is a unit by itself. Reply: one zero byte."
 abbrev pub zeroed : Memory → Said Order Memory
 zeroed m = record { reply = 0 ∷ []; orders = []; next = m }
-
--- ---- by the unit's kind
 
 unfoldable pub does : Memory → List ℕ → Kind → Said Order Memory
 does m u Zero = zeroed m
 does m u (Set k) = puts m k u
 does m u (Get k) = gets m (nameOf u) k
 does m u (Gives o) = gives m (nameOf u) o
+does m u (Moves k) = moves m k u
+does m u Places = places m u
+does m u Finds = finds m (nameOf u)
+does m u Clears = clears m (nameOf u)
 does m u Unknown = unknown m
 
 -- WHAT BECOMES OF A TOKEN: a unit is answered; "A wait .. drops the unit's bytes so far, without reply or flag", and a report says nothing
 unfoldable pub act : Memory → Token Event → Said Order Memory
 act m (whole u) = does m u (kindAt u)
 act m (lost u) = quiet m
-act m (seen e) = quiet m
+act m (seen e) = quiet (told m e)
 
 -- ---- the code's answer
 

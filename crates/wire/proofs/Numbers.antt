@@ -2,10 +2,10 @@
 use mathlib.Core.Path.{_≡_, refl, ap}
 use mathlib.Core.List.{List, [], _∷_, _++_}
 use Prim.Native.Nat.{ℕ, zero, suc, _+_, _*_, _/_, _%_, _^_, _≤_, _<_}
-use native.Mathlib.Nat.{add-assoc, add-suc, pow-succ'}
+use native.Mathlib.Nat.{add-assoc, add-suc, add-zero, zero-add, suc-add, mul-assoc, pow-succ'}
 use native.Mathlib.Numerals.{add-one}
 use native.Mathlib.Omega.{arith}
-use lib.ListN.{length, getD, take, drop, replicate}
+use lib.ListN.{length, getD, take, drop, replicate, List·getD-eq-default}
 use lib.Seq.{getD-append-add, getD-take, getD-drop, drop-cons}
 use Rattle.wire.specs.Numbers.{leAt, leBytes}
 
@@ -78,6 +78,21 @@ leBytes-leAt (suc w) p s h l =
     let b : (getD s p 0 + 256 * leAt w (p + 1) s) / 256 ≡ leAt w (p + 1) s = omega (arith, h p) in
     let k : p + 1 + w ≤ length s = omega arith in
     rw (a, b, leBytes-leAt w (p + 1) s h k, drop-cons s p 0 i, add-one)
+
+-- past the end stand zeros
+pub leAt-past : (w p : ℕ) (s : List ℕ) → length s ≤ p → leAt w p s ≡ 0
+unfolding leAt
+leAt-past zero p s h = refl
+leAt-past (suc w) p s h = omega (arith, List·getD-eq-default s 0 h, leAt-past w (p + 1) s (omega arith))
+
+-- a number of a + b bytes is that of the first a, and that of the b behind them
+pub leAt-split : (a b p : ℕ) (s : List ℕ) → leAt (a + b) p s ≡ leAt a p s + 256 ^ a * leAt b (p + a) s
+unfolding leAt
+leAt-split zero b p s = rw (zero-add, add-zero) (omega arith)
+leAt-split (suc a) b p s =
+    let i : leAt (a + b) (p + 1) s ≡ leAt a (p + 1) s + 256 ^ a * leAt b (p + 1 + a) s = leAt-split a b (p + 1) s in
+    let e : p + 1 + a ≡ p + suc a = omega arith in
+    rw (suc-add, i, e, pow-succ') (omega (arith, mul-assoc 256 (256 ^ a) (leAt b (p + suc a) s)))
 
 -- ---- the three widths that the code reads, byte by byte
 

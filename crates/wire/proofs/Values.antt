@@ -12,8 +12,9 @@ use lib.Ieee.Bits.{nanBits-is, nanBits-above, toBits-ofBits}
 use lib.Ieee.Compare.{differs-from-itself}
 use borrow.Author.Tests.{lt-leb, leb-true, leb-false, lt-ltb, le-ltb, ltb-true, ltb-false}
 use lib.Pow.{pow-pos}
-use mir.Syntax.{Width, w16}
-use mir.Val.{Fits, toZ, ofZ, sel, bits, hbits}
+use mir.Syntax.{Width, w16, w64}
+use mir.Val.{Fits, SFits, toZ, ofZ, sel, bits, hbits}
+use mir.Facts.{sfits-widen}
 use mir.ValLaws.{toZ-pos, toZ-ofZ, half-full, pow-bits}
 use Rattle.ranges.specs.Tests.{signedWithin, finite}
 use Rattle.ranges.proofs.Tests.{or-no}
@@ -21,6 +22,16 @@ use Rattle.ranges.proofs.Tests.{or-no}
 -- what the machine reads back of a signed number that fits is the number
 pub back : (w : Width) (z : ℤ) → mag z < 2 ^ hbits w → toZ w (ofZ w z) ≡ z
 back w z h = toZ-ofZ w z (record { sfits = h })
+
+-- ---- a narrower number as one of 64 bits: it fits, and stays the number
+
+module _ (w : Width) (z : ℤ) (narrower : T (leb (hbits w) (hbits w64))) (fits : SFits w z) where
+  pub widens : SFits w64 (toZ w (ofZ w z))
+  widens = subst (SFits w64) (sym (toZ-ofZ w z fits)) (sfits-widen narrower fits)
+
+  -- what the machine reads back of it at 64 bits
+  pub widened : {r : ℤ} → r ≡ toZ w (ofZ w z) → toZ w64 (ofZ w64 r) ≡ z
+  widened e = ap (λ (y : ℤ). toZ w64 (ofZ w64 y)) (e ∙ toZ-ofZ w z fits) ∙ toZ-ofZ w64 z (sfits-widen narrower fits)
 
 -- ---- the sign's test, of a number's bits
 

@@ -5,7 +5,7 @@ ghost use Prim.Native.Nat.{_+_, _*_, min};
 ghost use lib.ListN.{getD};
 ghost use lib.Seq.{sets};
 ghost use lib.Ieee.{binary32, ofBits, toBits};
-ghost use mir.Syntax.{w16, w32};
+ghost use mir.Syntax.{w16, w32, w64};
 ghost use mir.Val.{toZ, ofZ};
 ghost use Rattle.wire.specs.Numbers.{leAt, leBytes};
 ghost use Rattle.wire.specs.Layout.{laid};
@@ -61,6 +61,22 @@ pub fn u32_at(s: &[u8], at: usize) -> u32
     )
 }
 
+// The number of eight bytes by its two halves, the low one first.
+fn eight(low: u32, high: u32) -> u64
+    ensures { λ r. ⌜ r ≡ low + 4294967296 * high ⌝ }
+{
+    low as u64 + 4294967296 * high as u64
+}
+
+pub fn u64_at(s: &[u8], at: usize) -> u64
+    ensures { λ r. ⌜ r ≡ leAt 8 at (now (s .entry)) ⌝ }
+{
+    if s.len() <= at {
+        return 0;
+    }
+    eight(u32_at(s, at), u32_at(s, at + 4))
+}
+
 pub fn i16_at(s: &[u8], at: usize) -> i16
     ensures { λ r. ⌜ r ≡ toZ w16 (leAt 2 at (now (s .entry))) ⌝ }
 {
@@ -71,6 +87,12 @@ pub fn i32_at(s: &[u8], at: usize) -> i32
     ensures { λ r. ⌜ r ≡ toZ w32 (leAt 4 at (now (s .entry))) ⌝ }
 {
     i32_of(u32_at(s, at))
+}
+
+pub fn i64_at(s: &[u8], at: usize) -> i64
+    ensures { λ r. ⌜ r ≡ toZ w64 (leAt 8 at (now (s .entry))) ⌝ }
+{
+    i64_of(u64_at(s, at))
 }
 
 pub fn f32_at(s: &[u8], at: usize) -> f32
@@ -101,6 +123,16 @@ pub fn i32_of(n: u32) -> i32
     }
 }
 
+pub fn i64_of(n: u64) -> i64
+    ensures { λ r. ⌜ r ≡ toZ w64 n ⌝ }
+{
+    if n < 9223372036854775808 {
+        n as i64
+    } else {
+        !((18446744073709551615 - n) as i64)
+    }
+}
+
 pub fn u16_of(z: i16) -> u16
     ensures { λ r. ⌜ r ≡ ofZ w16 z ⌝ }
 {
@@ -119,6 +151,29 @@ pub fn u32_of(z: i32) -> u32
     } else {
         4294967295 - ((!z) as u32)
     }
+}
+
+pub fn u64_of(z: i64) -> u64
+    ensures { λ r. ⌜ r ≡ ofZ w64 z ⌝ }
+{
+    if z >= 0 {
+        z as u64
+    } else {
+        18446744073709551615 - ((!z) as u64)
+    }
+}
+
+// A narrower signed number, unchanged.
+pub fn wide16(z: i16) -> i64
+    ensures { λ r. ⌜ r ≡ z ⌝ }
+{
+    z as i64
+}
+
+pub fn wide32(z: i32) -> i64
+    ensures { λ r. ⌜ r ≡ z ⌝ }
+{
+    z as i64
 }
 
 // `from_bits` and `to_bits` are undefined at a NaN, so it is tested for first. Every NaN pattern reads as the one NaN.

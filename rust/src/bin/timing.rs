@@ -4,7 +4,7 @@
 //!     timing [ROUNDS]
 
 use rivertosku::board::{Board, Number, PIECE, ROOM};
-use rivertosku::generator::{self, Random, BENCH_ROOM};
+use rivertosku::generator::{self, any_block, Random, BENCH_ROOM};
 use rivertosku::same;
 use rivertosku::second::Second;
 use std::process::ExitCode;
@@ -14,18 +14,18 @@ const BYTES: usize = 10_000_000;
 /// All six lines take about a minute.
 const ROUNDS: usize = 25;
 
-/// Frames of all blocks: sets, gets and orders, damaged ones, and zeros.
+/// Frames of the seven blocks: sets, gets and orders, damaged ones, and zeros.
 fn trace() -> Vec<u8> {
     let mut random = Random(1);
     let mut all = Vec::with_capacity(BYTES + 64);
     while all.len() < BYTES {
         match random.below(100) {
-            0..=39 => all.extend(generator::good_set(&mut random)),
+            0..=39 => all.extend(generator::good_set(&mut random, any_block)),
             40..=64 => all.extend(generator::get(&mut random)),
             65..=76 => all.extend(generator::order(&mut random)),
-            77..=82 => all.extend(generator::damaged_set(&mut random)),
-            83..=87 => all.extend(generator::bad_set(&mut random)),
-            88..=91 => all.extend(generator::unknown(&mut random)),
+            77..=82 => all.extend(generator::damaged_set(&mut random, any_block)),
+            83..=87 => all.extend(generator::bad_set(&mut random, any_block)),
+            88..=91 => all.extend(generator::unknown(&mut random, generator::name)),
             _ => all.push(0),
         }
     }
@@ -51,14 +51,14 @@ impl<'t> Offer<'t> {
 #[derive(PartialEq)]
 struct Said {
     replies: Vec<u8>,
-    orders: [usize; 8],
+    orders: [usize; 10],
     calls: usize,
 }
 
 impl Said {
     /// With its pages touched, so that no round pays for them.
     fn new() -> Said {
-        Said { replies: vec![1; 2 * BYTES], orders: [0; 8], calls: 0 }
+        Said { replies: vec![1; 2 * BYTES], orders: [0; 10], calls: 0 }
     }
 }
 
@@ -71,7 +71,7 @@ fn library(offer: &Offer, said: &mut Said) -> Board {
             let call = board.receive(rest, stamp, &mut reply[..offer.room]);
             assert!(call.number == Number::Accepted);
             said.replies.extend_from_slice(call.reply);
-            said.orders[call.order.map_or(0, |o| o as usize)] += 1;
+            said.orders[call.order.map_or(0, |order| order.number() as usize)] += 1;
             said.calls += 1;
             rest = call.rest;
         }
@@ -98,7 +98,7 @@ fn second(offer: &Offer, said: &mut Said) -> Second {
 
 fn timed<T>(said: &mut Said, round: impl FnOnce(&mut Said) -> T) -> (Duration, T) {
     said.replies.clear();
-    said.orders = [0; 8];
+    said.orders = [0; 10];
     said.calls = 0;
     let start = Instant::now();
     let end = round(said);

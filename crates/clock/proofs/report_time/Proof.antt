@@ -5,7 +5,7 @@ use borrow.Author.Needs.{needs}
 use Rattle.sheet.specs.Lengths.{longestFrame}
 use Rattle.state.specs.declared.Board.{Board}
 use Rattle.state.specs.declared.Verdict.{Verdict}
-use Rattle.clock.specs.declared.Report.{Report}
+use Rattle.state.specs.declared.Report.{Report}
 use Rattle.clock.proofs.Reports.{report-refused, report-heard, idle-stays, early-stays, overdue-drops}
 use Rattle.clock.proofs.report_time.Statement.{statement}
 use Rattle.clock.proofs.report_time.Tie as tie

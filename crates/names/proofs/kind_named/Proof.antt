@@ -26,8 +26,10 @@ returns-3 c =
 returns-4 : tie.Need-returns-4
 unfolding kindOf
 returns-4 c =
-    let f = c .before .before in
-    rw (← f .before .before .before .set-named .ensures, le-ltb _ _ (f .before .before .if1 .left), ← f .before .get-named .ensures, le-ltb _ _ (f .if2 .left), ← c .before .order-named .ensures, le-ltb _ _ (c .if3 .left))
+    let o = c .before in
+    let f = o .before .before in
+    rw (← f .before .before .before .set-named .ensures, le-ltb _ _ (f .before .before .if1 .left), ← f .before .get-named .ensures, le-ltb _ _ (f .if2 .left), ← o .before .order-named .ensures, le-ltb _ _ (o .if3 .left))
+    (c .position-kind .ensures)
 
 pub kind-named-spec : {M : Type 1} → statement M
 kind-named-spec =
@@ -40,4 +42,5 @@ kind-named-spec =
     (λ c κs. search needs)
     (λ c κs. search needs)
     returns-3
+    (λ c κs. search needs)
     returns-4)

@@ -10,18 +10,21 @@ unfolding lineOf
 returns c =
     let end = c .before .before in
     let reply = end .before .before .before .before in
-    let order = reply .before .before .before .before in
+    let space = reply .before .before .before .before in
+    let order = space .before .before .before .before in
     let taken = order .before .before .before .before in
     let stamp = taken .before .before .before .before in
     then (stamp .write-number .ensures)
     (then (taken .write-number2 .ensures)
-    (then (order .write-number3 .ensures)
-    (then (reply .write-reply .ensures) (end .write-byte .ensures))))
+    (then (order .write-order .ensures)
+    (then (space .write-byte .ensures)
+    (then (reply .write-reply .ensures) (end .write-byte2 .ensures)))))
 
 pub write-line-spec : {M : Type 1} → statement M
 write-line-spec =
     tie.close
     (tie.spec
+    (λ c κs. search needs)
     (λ c κs. search needs)
     (λ c κs. search needs)
     (λ c κs. search needs)

@@ -9,6 +9,8 @@ pub struct Counts {
     pub units: usize,
     /// Units by their answers: zero, errc, get, order, set, errd, errv.
     pub kinds: [usize; 7],
+    /// And those whose answers are outside the host: move and movr, spos, gpos, the command zero.
+    pub outside: [usize; 4],
     pub calls: usize,
     pub numbers: [usize; 4],
     pub bytes: usize,
@@ -16,6 +18,9 @@ pub struct Counts {
     pub reports: usize,
     pub dropped: usize,
     pub unreported: usize,
+    /// Reports of the position, and those refused by 3 and 5.
+    pub positions: usize,
+    pub unplaced: [usize; 2],
     /// Requests written, and those refused by 3 and 4.
     pub written: usize,
     pub unwritten: [usize; 2],
@@ -38,6 +43,12 @@ impl Counts {
         self.unreported += (number != Number::Accepted) as usize;
     }
 
+    pub fn position_report(&mut self, number: Number) {
+        self.positions += 1;
+        self.unplaced[0] += (number == Number::Unsound) as usize;
+        self.unplaced[1] += (number == Number::MicrostepsOutOfRange) as usize;
+    }
+
     pub fn answer(&mut self, answer: &Answer) {
         self.kinds[kind(answer)] += 1;
     }
@@ -45,13 +56,16 @@ impl Counts {
     pub fn show(&self, seed: u64) {
         let [_, one, two, three] = self.numbers;
         let [zero, errc, get, order, set, errd, errv] = self.kinds;
+        let [travel, spos, gpos, clear] = self.outside;
+        let [unsound, wide] = self.unplaced;
         let [out_of_range, too_short] = self.unwritten;
         let [no_name, no_answer, cut, damaged] = self.unread;
         println!(
-            "compared {} units ({set} sets, {get} gets, {order} orders, {errv} errv, {errd} errd, {errc} errc, {zero} zeros) in {} runs, \
-             {} calls of which {} refused ({one} by 1, {two} by 2, {three} by 3), {} bytes, {} reports of the time of which {} dropped \
-             something and {} were refused, {} requests written and {} refused ({out_of_range} by 3, {too_short} by 4), {} answers read \
-             and {} refused ({no_name} by 5, {no_answer} by 6, {cut} by 7, {damaged} by 8), seed {seed}",
+            "compared {} units ({set} sets, {get} gets, {order} orders, {travel} moves, {spos} spos, {gpos} gpos, {clear} zero, \
+             {errv} errv, {errd} errd, {errc} errc, {zero} zeros) in {} runs, {} calls of which {} refused ({one} by 1, {two} by 2, \
+             {three} by 3), {} bytes, {} reports of the time of which {} dropped something and {} were refused, {} reports of the \
+             position of which {} were refused ({unsound} by 3, {wide} by 5), {} requests written and {} refused ({out_of_range} by 3, \
+             {too_short} by 4), {} answers read and {} refused ({no_name} by 5, {no_answer} by 6, {cut} by 7, {damaged} by 8), seed {seed}",
             self.units,
             self.runs,
             self.calls,
@@ -60,6 +74,8 @@ impl Counts {
             self.reports,
             self.dropped,
             self.unreported,
+            self.positions,
+            unsound + wide,
             self.written,
             out_of_range + too_short,
             self.read,

@@ -8,7 +8,7 @@ use rivertosku::generator::{self, Random};
 use rivertosku::host::{Answer, ReadRefusal};
 use rivertosku::same;
 use rivertosku::second_host::Request;
-use rivertosku::table::{row, ORDERS};
+use rivertosku::table::{row, GPOS_TOTAL, ORDERS};
 
 /// A get, an order, or a set: fields in range, at its edges or out of it, or zeros.
 fn request(random: &mut Random) -> Request {
@@ -59,23 +59,42 @@ fn read(bytes: &[u8], fault: Fault, counts: &mut Counts) -> Result<Result<(Answe
     Ok(said)
 }
 
+/// An answer at the front that is outside the host, since "later commands stay outside": where `Counts::outside` counts it, the order that
+/// it echoes, its length.
+fn outside(bytes: &[u8]) -> Option<(usize, Option<u8>, usize)> {
+    match bytes.first_chunk()? {
+        b"move" => Some((0, Some(8), 4)),
+        b"movr" => Some((0, Some(9), 4)),
+        b"spos" => Some((1, None, 4)),
+        b"gpos" => Some((2, None, GPOS_TOTAL)),
+        b"zero" => Some((3, None, 4)),
+        _ => None,
+    }
+}
+
 /// Reads a reply to its last byte, answer after answer; what differs, is refused, or echoes another order than the call's.
 pub fn read_reply(reply: &[u8], order: Option<Order>, fault: Fault, counts: &mut Counts) -> Result<(), String> {
     let mut echoed = vec![];
     let mut left = reply;
     while !left.is_empty() {
-        match read(left, fault, counts)? {
-            Ok((answer, length)) => {
+        let length = match (read(left, fault, counts)?, outside(left)) {
+            (Ok((answer, length)), None) => {
                 counts.answer(&answer);
                 if let Answer::OrderEcho(order) = answer {
-                    echoed.push(order);
+                    echoed.push(order as u8);
                 }
-                left = &left[length..];
+                length
             }
-            Err(refusal) => return Err(format!("reply {}: its last {} bytes are refused, {refusal:?}", hex(reply), left.len())),
-        }
+            (Err(ReadRefusal::NoAnswer), Some((kind, order, length))) => {
+                counts.outside[kind] += 1;
+                echoed.extend(order);
+                length
+            }
+            (said, _) => return Err(format!("reply {}: of its last {} bytes is read {said:?}", hex(reply), left.len())),
+        };
+        left = &left[length..];
     }
-    if !echoed.iter().eq(&order) {
+    if !echoed.iter().copied().eq(order.map(Order::number)) {
         return Err(format!("order {order:?}, but echoed {echoed:?}"));
     }
     Ok(())

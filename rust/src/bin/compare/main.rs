@@ -1,7 +1,7 @@
-//! The library and the second receiver on the same random runs, compared after each call: number, taken, written, order, every byte of
-//! the buffer, the state. Before some calls the time is reported: number and state are compared. The library's host and the second one
-//! write the runs' requests and read every reply, and are compared too: length or refusal, every byte of the buffer, the answer. The
-//! readers also get bytes that no board sends.
+//! The library and the second receiver on the same random runs, compared after each call: number, taken, written, order, its travel, every
+//! byte of the buffer, the state. Before some calls the time or the position is reported: number and state are compared. The library's
+//! host and the second one write the runs' requests and read every reply, and are compared too: length or refusal, every byte of the
+//! buffer, the answer. The readers also get bytes that no board sends.
 //!
 //!     compare [--seed N] [--units N] [--break NAME|all] [--show]
 //!

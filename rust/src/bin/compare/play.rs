@@ -2,10 +2,11 @@
 
 use crate::counts::Counts;
 use crate::hosts::read_reply;
-use crate::run::{hex, Change, Run, Step};
+use crate::run::{hex, Change, Report, Run, Step};
 use crate::runs::WIDEST;
-use rivertosku::board::{Board, Number, Parts, FRAME};
+use rivertosku::board::{Board, Number, Order, Parts, FRAME};
 use rivertosku::fault::Fault;
+use rivertosku::position::{Position, Travel};
 use rivertosku::same;
 use rivertosku::second::Second;
 
@@ -34,16 +35,16 @@ impl Pair<'_> {
 
         let answer = self.board.receive(piece, stamp, &mut ours[..room]);
         let (number, taken, order) = (answer.number, answer.taken, answer.order);
-        let a = (number as u8, taken, answer.reply.len(), order.map_or(0, |o| o as u8));
+        let a = (number as u8, taken, answer.reply.len(), order.map_or(0, Order::number), same::travel_bytes(travel(order)));
         let out = match self.fault {
             Fault::None => self.second.call(piece, stamp, &mut theirs[..room]),
             fault => self.second.broken_call(fault, piece, stamp, &mut theirs[..room]),
         };
-        let b = (out.number, out.taken, out.written, out.order);
+        let b = (out.number, out.taken, out.written, out.order, out.travel);
 
         self.counts.call(number, taken, out.units);
         if a != b {
-            return Err(format!("number, taken, written, order: library {a:?}, second {b:?}"));
+            return Err(format!("number, taken, written, order, travel: library {a:?}, second {b:?}"));
         }
         if ours != theirs {
             return Err(format!("buffer: library {}, second {}", hex(&ours[..room]), hex(&theirs[..room])));
@@ -87,12 +88,45 @@ impl Pair<'_> {
         Ok(())
     }
 
+    /// The position reported to both; what differs.
+    fn report_position(&mut self, position: Position) -> Result<(), String> {
+        let mut expected = *self.board.parts();
+
+        let number = self.board.report_position(position);
+        let a = number as u8;
+        let bytes = same::position_bytes(position);
+        let b = match self.fault {
+            Fault::None => self.second.report_position(bytes),
+            fault => self.second.broken_report_position(fault, bytes),
+        };
+
+        self.counts.position_report(number);
+        if a != b {
+            return Err(format!("report of {position:?}, number: library {a}, second {b}"));
+        }
+        if let Some(text) = same::difference(&self.board, &self.second) {
+            return Err(format!("report of {position:?}, {text}"));
+        }
+        // The library's record besides: the very same, but for the position if it is accepted.
+        if number == Number::Accepted {
+            expected.memory.position = position;
+        }
+        let parts = self.board.parts();
+        if *parts != expected {
+            return Err(format!("report of {position:?}, the record: {parts:?}, not {expected:?}"));
+        }
+        Ok(())
+    }
+
     /// A step's reports and calls, by turns; what differs.
     fn offer(&mut self, step: &Step) -> Result<(), String> {
         let mut rest = &step.piece[..];
         loop {
-            for &wait in &step.reports {
-                self.report_clock(wait)?;
+            for report in &step.reports {
+                match *report {
+                    Report::Clock(wait) => self.report_clock(wait)?,
+                    Report::Position(position) => self.report_position(position)?,
+                }
             }
             let (taken, accepted) = self.call(rest, step.stamp, step.room)?;
             rest = &rest[taken..];
@@ -123,6 +157,14 @@ impl Pair<'_> {
     }
 }
 
+/// The travel of an order, zeros if it carries none.
+fn travel(order: Option<Order>) -> Travel {
+    match order {
+        Some(Order::Move(travel) | Order::Movr(travel)) => travel,
+        _ => Travel::default(),
+    }
+}
+
 /// The library's record besides: the very same if nothing is taken, else zeros behind the unfinished bytes.
 fn kept(before: &Parts, parts: &Parts, taken: usize) -> Result<(), String> {
     if taken == 0 && parts != before {
@@ -136,7 +178,7 @@ fn kept(before: &Parts, parts: &Parts, taken: usize) -> Result<(), String> {
 
 pub fn play(run: &Run, fault: Fault, counts: &mut Counts) -> Result<(), Miss> {
     counts.runs += 1;
-    let mut pair = Pair { board: Board::fresh(), second: Second::fresh(), fault, counts };
+    let mut pair = Pair { board: Board::fresh(), second: Second::broken_fresh(fault), fault, counts };
     if let Some(text) = same::difference(&pair.board, &pair.second) {
         return Err(Miss { step: 0, text: format!("fresh boards: {text}") });
     }

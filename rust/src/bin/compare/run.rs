@@ -1,24 +1,34 @@
-//! A run of the comparison: pieces, reports of the time and states by hand.
+//! A run of the comparison: pieces, reports and states by hand.
 
 use rivertosku::board::{Parts, FRAME};
+use rivertosku::position::Position;
 use rivertosku::same;
 
 /// A change of the state by hand before a step. All but `Spare` are taken back behind it.
 #[derive(Clone, Debug)]
 pub enum Change {
     Data(usize, Vec<u8>),
+    Position(Position),
     Flags(usize),
     Held(Vec<u8>, usize),
     /// This byte in all places of held behind the unfinished bytes.
     Spare(u8),
 }
 
+#[derive(Clone, Debug)]
+pub enum Report {
+    /// The time, as the wait since the last byte, whichever that is.
+    Clock(u32),
+    /// Where the drive stands.
+    Position(Position),
+}
+
 /// A piece, offered until all of it is taken or it is refused.
 #[derive(Clone)]
 pub struct Step {
     pub change: Option<Change>,
-    /// Reports of the time before each of its calls, as waits since the last byte, whichever that is.
-    pub reports: Vec<u32>,
+    /// Reports before each of its calls.
+    pub reports: Vec<Report>,
     pub piece: Vec<u8>,
     pub stamp: u32,
     pub room: usize,
@@ -35,6 +45,7 @@ impl Change {
     pub fn apply(&self, parts: &mut Parts) {
         match self {
             Change::Data(block, data) => same::put_data(&mut parts.memory.settings, *block, data),
+            Change::Position(position) => parts.memory.position = *position,
             Change::Flags(flags) => parts.memory.notes.flags = *flags,
             Change::Held(bytes, count) => {
                 parts.held = [0; FRAME];
@@ -67,7 +78,7 @@ impl Run {
                 println!("  state by hand: {change:?}");
             }
             if !step.reports.is_empty() {
-                println!("  reports before each call, so many ms after the last byte: {:?}", step.reports);
+                println!("  reports before each call, the time in ms after the last byte: {:?}", step.reports);
             }
             println!("  stamp {} room {} piece of {} {}", step.stamp, step.room, step.piece.len(), hex(&step.piece));
         }

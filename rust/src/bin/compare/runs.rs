@@ -2,29 +2,33 @@
 
 use crate::counts::Counts;
 use crate::hosts::requested;
-use crate::run::{Change, Run, Step};
+use crate::run::{Change, Report, Run, Step};
 use rivertosku::board::{Board, Notes, Parts, FRAME, PIECE, ROOM};
 use rivertosku::fault::Fault;
-use rivertosku::generator::{self, Random, BENCH_ROOM};
+use rivertosku::generator::{self, any_name, any_set, other_set, Random, BENCH_ROOM};
+use rivertosku::position::{Count, Microsteps, Position, Steps};
 use rivertosku::same;
 use rivertosku::table::BLOCKS;
 
 /// The widest room of a call.
 pub const WIDEST: usize = 300;
 
-/// A run's bytes: units of every kind, whole or in part. Those that no host writes, as sets with reserved bytes, are made without one.
+/// A run's bytes: units of every kind, whole or in part. Those that no host writes, as sets with reserved bytes and the commands that are
+/// outside it, are made without one.
 fn bytes(random: &mut Random, fault: Fault, counts: &mut Counts) -> Result<Vec<Vec<u8>>, String> {
     let units = 1 + random.below(12);
     let mut all = vec![];
     for _ in 0..units {
-        let mut unit = match random.below(100) {
+        let mut unit = match random.below(120) {
             0..=7 => vec![0; 1 + random.below(3)],
             8..=48 => requested(random, fault, counts)?,
-            49..=53 => generator::good_set(random),
-            54..=61 => generator::zero_set(random),
-            62..=74 => generator::bad_set(random),
-            75..=85 => generator::damaged_set(random),
-            _ => generator::unknown(random),
+            49..=53 => generator::good_set(random, any_set),
+            54..=61 => generator::zero_set(random, any_set),
+            62..=74 => generator::bad_set(random, any_set),
+            75..=85 => generator::damaged_set(random, any_set),
+            86..=95 => generator::good_set(random, other_set),
+            96..=105 => generator::gpos_or_zero(random),
+            _ => generator::unknown(random, any_name),
         };
         if random.percent(3) {
             unit.truncate(1 + random.below(unit.len()));
@@ -76,10 +80,38 @@ fn later(random: &mut Random, stamp: u32, calm: bool) -> u32 {
     })
 }
 
-/// The waits of a few reports in a row, if any.
-fn reports(random: &mut Random, chance: usize) -> Vec<u32> {
+/// A position with such microsteps, its other numbers at their extremes or anywhere.
+fn position(random: &mut Random, microsteps: i16) -> Position {
+    let any = random.word();
+    let steps = random.pick(&[i32::MIN, -1, 0, i32::MAX, any as i32]);
+    let count = random.pick(&[i64::MIN, -1, 0, i64::MAX, any as i64]);
+    Position { steps: Steps(steps), microsteps: Microsteps(microsteps), count: Count(count) }
+}
+
+/// Microsteps in their range, often at its edges.
+fn inside(random: &mut Random) -> i16 {
+    let any = random.within(-255, 255) as i16;
+    random.pick(&[-255, 255, any, any])
+}
+
+/// Microsteps at the edges of their range, on both sides, or anywhere.
+fn around(random: &mut Random) -> i16 {
+    let any = random.word() as i16;
+    random.pick(&[-256, -255, 255, 256, i16::MIN, i16::MAX, any])
+}
+
+fn report(random: &mut Random) -> Report {
+    if random.percent(50) {
+        return Report::Clock(later(random, 0, false));
+    }
+    let microsteps = if random.percent(60) { inside(random) } else { around(random) };
+    Report::Position(position(random, microsteps))
+}
+
+/// A few reports in a row, if any.
+fn reports(random: &mut Random, chance: usize) -> Vec<Report> {
     let some = if random.percent(chance) { 1 + random.below(3) } else { 0 };
-    (0..some).map(|_| later(random, 0, false)).collect()
+    (0..some).map(|_| report(random)).collect()
 }
 
 /// Room enough for a call.
@@ -95,14 +127,14 @@ fn room(random: &mut Random) -> usize {
 
 /// The beginning of a set, its name at least.
 fn beginning(random: &mut Random) -> Vec<u8> {
-    let mut frame = generator::good_set(random);
+    let mut frame = generator::good_set(random, any_set);
     frame.truncate(4 + random.below(frame.len() - 4));
     frame
 }
 
 /// A state by hand: a rule of soundness broken, or just kept.
 fn change(random: &mut Random) -> Change {
-    match random.below(16) {
+    match random.below(18) {
         0..=5 => {
             let block = generator::any_block(random);
             Change::Data(block, generator::data(random, block, 1))
@@ -110,11 +142,11 @@ fn change(random: &mut Random) -> Change {
         6 => Change::Flags(random.pick(&[7, 8, 9, 128, 255, 256, usize::MAX])),
         7 => Change::Held(vec![0], 1),
         8 => Change::Held(vec![0, random.word() as u8, b's'], 2 + random.below(2)),
-        9 => Change::Held(generator::unknown(random), 4),
-        10 => Change::Held([generator::name(random), vec![0; 3]].concat(), 4 + random.below(4)),
+        9 => Change::Held(generator::unknown(random, any_name), 4),
+        10 => Change::Held([any_name(random), vec![0; 3]].concat(), 4 + random.below(4)),
         11 | 12 => {
             // A set's frame, less a byte, whole, or with bytes behind it.
-            let frame = generator::good_set(random);
+            let frame = generator::good_set(random, any_set);
             let n = (frame.len() + random.below(3) - 1).min(FRAME);
             let mut held = [frame, vec![1]].concat();
             held.truncate(n);
@@ -122,6 +154,10 @@ fn change(random: &mut Random) -> Change {
         }
         13 => {
             Change::Held(beginning(random), random.pick(&[FRAME, FRAME + 1, FRAME + 2, 255, 256, 260, 1 << 32, (1 << 32) + 4, usize::MAX]))
+        }
+        14 | 15 => {
+            let microsteps = around(random);
+            Change::Position(position(random, microsteps))
         }
         _ => Change::Spare(random.pick(&[1, 0x73, 0xFF])),
     }
@@ -136,14 +172,16 @@ fn sound(random: &mut Random) -> (Parts, Vec<u8>) {
     }
     parts.memory.notes = Notes {
         flags: random.below(8),
-        block: random.pick(&[0, 1, 7, 8, 256, usize::MAX]),
+        block: random.pick(&[0, 1, 7, 10, 11, 256, usize::MAX]),
         field: random.pick(&[0, 1, 8, 9, 256, usize::MAX]),
     };
+    let microsteps = inside(random);
+    parts.memory.position = position(random, microsteps);
     parts.stamp = random.word() as u32;
     let unit = match random.below(3) {
         0 => vec![],
-        1 => generator::name(random),
-        _ => generator::good_set(random),
+        1 => any_name(random),
+        _ => generator::good_set(random, any_set),
     };
     let (held, rest) = unit.split_at(random.below(unit.len().max(1)));
     Change::Held(held.to_vec(), held.len()).apply(&mut parts);

@@ -1,0 +1,102 @@
+-- `travel::places::answer_spos` meets its contract: the CRC first, then the fields. Assumes nothing.
+use mathlib.Core.Path.{_≡_, sym, ap, _∙_}
+use mathlib.Core.List.{List}
+use Prim.Native.Nat.{ℕ, _≤_}
+use native.Mathlib.Omega.{arith}
+use lib.ListN.{length}
+use borrow.Author.Needs.{needs}
+use borrow.Author.Tests.{not-true, not-false}
+use Rattle.frame.specs.Frame.{dataIn}
+use Rattle.frame.proofs.Frames.{intact-long}
+use Rattle.sheet.specs.Sheet.{sposRow}
+use Rattle.sheet.specs.Rows.{numbersIn, firstBad}
+use Rattle.position.specs.Position.{sposOf, sposNumbers, placed}
+use Rattle.position.specs.declared.Spos.{Spos}
+use Rattle.names.specs.declared.Order.the-variants.{Nothing}
+use Rattle.unit.specs.Unit.{stands, places}
+use Rattle.unit.specs.declared.Memory.{Memory}
+use Rattle.unit.proofs.Sets.{answered-as, section-is, says-damaged, says-refused, says-done}
+use Rattle.travel.proofs.places.answer_spos.Statement.{statement}
+use Rattle.travel.proofs.places.answer_spos.Tie as tie
+
+returns : tie.Need-returns
+unfolding places
+returns c =
+    let said = c .before .before in
+    let test = said .before .before in
+    let a = test .before .before .before .before .args in
+    says-damaged (a .memory) (a .unit .now) 10 _ _ (sym (test .before .is-intact .ensures) ∙ not-true _ (test .if1 .taken)) (said .refuse-crc .ensures)
+
+-- past the first test the unit is intact, so it has a name and a CRC
+long : (c : tie.Else1) → 6 ≤ length (c .before .before .before .before .args .unit .now)
+long c = intact-long (c .before .before .before .before .args .unit .now) (sym (c .before .is-intact .ensures) ∙ not-false _ (c .if1 .left))
+
+sub-end : tie.Need-sub-end
+sub-end c = omega (arith, long c)
+
+sub-decode : tie.Need-sub-decode
+sub-decode c = omega (arith, long c)
+
+part-decode-start : tie.Need-part-decode-start
+part-decode-start c = omega (arith, long c)
+
+-- what is decoded is the unit's data section
+decoded : (c : tie.After-decode) → c .decode .result ≡ sposOf (numbersIn sposRow (dataIn (c .before .before .before .before .before .before .args .unit .now)))
+decoded c = c .decode .ensures ∙ ap (λ (d : List ℕ). sposOf (numbersIn sposRow d)) (section-is (c .before .before .before .before .before .before .args .unit .now))
+
+returns-2 : tie.Need-returns-2
+unfolding places
+returns-2 c =
+    let said = c .before .before in
+    let bad = said .before .before .before in
+    let carried = bad .before in
+    let test = carried .before .before in
+    let a = test .before .before .before .before .args in
+    says-refused (a .memory) (a .unit .now) 10 _ _ (bad .first-bad .result)
+    (bad .first-bad .ensures ∙ ap (λ (s : Spos). firstBad sposRow (sposNumbers s)) (decoded carried))
+    (sym (test .before .is-intact .ensures) ∙ not-false _ (test .if1 .left)) (said .before .before .if2 .taken) (said .refuse-field .ensures)
+
+returns-3 : tie.Need-returns-3
+unfolding places
+returns-3 c =
+    let put = c .before in
+    let new = put .before in
+    let said = new .before .before .before .before in
+    let bad = said .before .before .before in
+    let carried = bad .before in
+    let test = carried .before .before in
+    let a = test .before .before .before .before .args in
+    answered-as (c .quiet .ensures)
+    (says-done (a .memory) (a .unit .now) 10 _ _ (bad .first-bad .result)
+    (bad .first-bad .ensures ∙ ap (λ (s : Spos). firstBad sposRow (sposNumbers s)) (decoded carried))
+    (sym (test .before .is-intact .ensures) ∙ not-false _ (test .if1 .left)) (said .before .before .if2 .left)
+    (record {
+      result =
+          ap (λ (m : Memory). record { order = Nothing; memory = m })
+          (put .standing .ensures ∙ ap (stands (a .memory)) (new .placed .ensures ∙ ap (λ (s : Spos). placed s (a .memory .position)) (decoded carried)));
+      reply = said .echo .ensures;
+    }))
+
+pub answer-spos-spec : {M : Type 1} → statement M
+answer-spos-spec =
+    tie.close
+    (tie.spec
+    (λ c κs. search needs)
+    (λ c κs. search needs)
+    (λ c. search needs)
+    returns
+    sub-end
+    sub-decode
+    part-decode-start
+    (λ c. search needs)
+    (λ c κs. search needs)
+    (λ c κs. search needs)
+    (λ c κs. search needs)
+    (λ c. search needs)
+    returns-2
+    (λ c κs. search needs)
+    (λ c κs. search needs)
+    (λ c κs. search needs)
+    (λ c κs. search needs)
+    (λ c. search needs)
+    returns-3)

@@ -1,0 +1,36 @@
+// move and movr (02, P5): read and checked as sets are; they store nothing and give an order.
+use names::Order;
+use position::Travel;
+use unit::Judged;
+use unit::Memory;
+ghost use mathlib.Core.Path.{_≡_};
+ghost use Rattle.unit.specs.Unit.{moveOrder, moves, Judges};
+
+// The order of block 8, and of block 9.
+fn order_of(block: usize, travel: Travel) -> Order
+    ensures { λ r. ⌜ r ≡ moveOrder block travel ⌝ }
+{
+    if block == 8 {
+        return Order::Move(travel);
+    }
+    Order::Movr(travel)
+}
+
+pub fn answer_move(memory: Memory, block: usize, unit: &[u8], reply: &mut [u8]) -> Judged
+    ensures { λ r. ⌜ Judges (moves memory block (now (unit .entry))) (now (reply .entry)) r (now (reply .exit)) ⌝ }
+{
+    if !frame::is_intact(unit) {
+        return unit::refuse_crc(memory, reply);
+    }
+    let end = unit.len() - 2;
+    let travel = Travel::decode(&unit[4..end]);
+    let bad = travel.first_bad();
+    if bad != 0 {
+        return unit::refuse_field(memory, block, bad, reply);
+    }
+    unit::echo(unit, reply);
+    Judged {
+        order: order_of(block, travel),
+        memory,
+    }
+}
