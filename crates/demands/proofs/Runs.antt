@@ -62,7 +62,7 @@ use Rattle.receiver.specs.Receive.{answer}
 use Rattle.receiver.proofs.Calls.{call-order, accept-some}
 use Rattle.demands.specs.Calls.{Answers}
 use Rattle.demands.specs.Reports.{Tells, time, place}
-use Rattle.demands.specs.Runs.{saidBy, inState, onBoard, heard, started, tokensOf, memoryBehind, wordBehind, Step, called, told, done, next, Offered}
+use Rattle.demands.specs.Runs.{saidBy, inState, onBoard, heard, started, From, idle, sound, tokensOf, memoryBehind, wordBehind, Step, called, told, done, next, Offered}
 use Rattle.demands.proofs.Calls.{promise, rules, is-taken, is-order, is-state, written-is, keeps-sound, receive-some}
 use Rattle.demands.proofs.Reports.{report-promise, report-refused, report-accepted, report-keeps-sound, report-some}
 use Rattle.demands.proofs.Positions.{place-promise, place-numbered, place-refused, place-accepted, place-keeps-sound, place-some}
@@ -143,32 +143,43 @@ offered-steps {run = run} {x = x} h s is =
     let tidy = offered-tidy h (subst Tidy (sym is) (tidy-board s)) in
     (λ i. record { reply = x .reply; orders = x .orders; next = tidy i }) ∙ ap onBoard (offered-state h ∙ ap (λ (z : State Memory). steps protocol z run) at-s)
 
--- ---- THE DEMANDS, from any board with nothing unfinished, at its memory and its last stamp
+-- ---- THE DEMANDS, from any board with nothing unfinished and from any sound one, at its memory and its last stamp: what the board holds unfinished
+-- counts as the front of the whole run
 
-module _ {b : Board} {run : List (Item Event)} {x : Said Order Board} (h : Offered b run x) (idle : b .count ≡ 0) where
-  -- Demand 3: "Once all is taken, the replies joined, the orders in sequence, the settings, flags, last refused field, unfinished bytes and last
-  -- stamp are those that sheet 01's rule gives for the whole run at once."
-  -- 02, P3: "Demand 3's run and the whole-run rule then hold bytes and clock reports in their order."
-  pub any-cutting : inState x ≡ wholeRun protocol (b .memory) (b .stamp) run
-  any-cutting =
-      offered-state h ∙ ap (λ (n : ℕ). steps protocol (stateAt (b .memory) (take n (b .held)) (b .stamp)) run) idle
-      ∙ steps-is-whole protocol need-law (b .memory) (b .stamp) run
+-- Demand 3: "Once all is taken, the replies joined, the orders in sequence, the settings, flags, last refused field, unfinished bytes and last
+-- stamp are those that sheet 01's rule gives for the whole run at once."
+-- 02, P3: "Demand 3's run and the whole-run rule then hold bytes and clock reports in their order."
+pub any-cutting : {b : Board} {run all : List (Item Event)} {x : Said Order Board} → Offered b run x → From b run all
+    → inState x ≡ wholeRun protocol (b .memory) (b .stamp) all
+any-cutting {b} {run} h (idle e) =
+    offered-state h ∙ ap (λ (n : ℕ). steps protocol (stateAt (b .memory) (take n (b .held)) (b .stamp)) run) e
+    ∙ steps-is-whole protocol need-law (b .memory) (b .stamp) run
+any-cutting {b} {run} h (sound e) =
+    let u = take (b .count) (b .held) in
+    let joined = steps-join protocol need-law (b .memory) (b .stamp) u [] (sound-begun (stateOf b) e) in
+    offered-state h ∙ ap (λ (a : Said Order (State Memory)). then a (steps protocol (a .next) run)) (sym joined)
+    ∙ sym (steps-append protocol (at (b .stamp) u) run (stateAt (b .memory) [] (b .stamp)))
+    ∙ steps-is-whole protocol need-law (b .memory) (b .stamp) (started b run)
+
+module _ {b : Board} {run all : List (Item Event)} {x : Said Order Board} (h : Offered b run x) (from : From b run all) where
+  abbrev said : inState x ≡ wholeRun protocol (b .memory) (b .stamp) all
+  said = any-cutting h from
 
   -- by the tokens of the run
-  dealt : (x .reply ≡ deal protocol (b .memory) (tokensOf run) .reply) × (x .next .memory ≡ memoryBehind (b .memory) (tokensOf run))
+  dealt : (x .reply ≡ deal protocol (b .memory) (tokensOf all) .reply) × (x .next .memory ≡ memoryBehind (b .memory) (tokensOf all))
   unfolding wholeRun
-  dealt = (ap (λ (y : Said Order (State Memory)). y .reply) any-cutting, ap (λ (y : Said Order (State Memory)). y .next .memory) any-cutting)
+  dealt = (ap (λ (y : Said Order (State Memory)). y .reply) said, ap (λ (y : Said Order (State Memory)). y .next .memory) said)
 
   -- no byte is lost or invented: the run is the bytes of the units that were dealt with or dropped, in sequence, and then "Bytes of an unfinished unit
   -- at the end of the run stay unfinished", on the board at the end
-  pub conserved : bytes run ≡ spent (tokensOf run) ++ take (x .next .count) (x .next .held)
+  pub conserved : bytes all ≡ spent (tokensOf all) ++ take (x .next .count) (x .next .held)
   unfolding wholeRun
   conserved =
-      units-bytes (protocol .cuts) (protocol .need) need-law run
-      ∙ ap (λ (y : Said Order (State Memory)). spent (tokensOf run) ++ y .next .line .unfinished) (sym any-cutting)
+      units-bytes (protocol .cuts) (protocol .need) need-law all
+      ∙ ap (λ (y : Said Order (State Memory)). spent (tokensOf all) ++ y .next .line .unfinished) (sym said)
 
   -- a unit u of the run, behind the tokens `before`: what it meets, and its answer
-  module _ (before after : List (Token Event)) (u : List ℕ) (cut : tokensOf run ≡ before ++ whole u ∷ after) where
+  module _ (before after : List (Token Event)) (u : List ℕ) (cut : tokensOf all ≡ before ++ whole u ∷ after) where
     abbrev pub m : Memory
     m = memoryBehind (b .memory) before
 
@@ -203,10 +214,24 @@ module _ {b : Board} {run : List (Item Event)} {x : Said Order Board} (h : Offer
         let without = ap (λ (y : Said Order Memory). y .next .settings) (deal-append protocol before after (b .memory)) in
         (keeps, ap (λ (y : Memory). y .settings) goes-on ∙ settings-alone after (a .next) m keeps ∙ sym without)
 
+    -- 02, P5: "gpos, which sends the position as it then stands": that behind the tokens before it
+    pub gpos-sends : kindAt u ≡ Finds → x .reply ≡ deal protocol (b .memory) before .reply ++ (positionReply (m .position) ++ deal protocol m after .reply)
+    gpos-sends e = answered ∙ ap (λ (y : Said Order Memory). deal protocol (b .memory) before .reply ++ (y .reply ++ deal protocol (y .next) after .reply)) (found m u e)
+
+  -- 02, P5: where the drive stands at the end, part by part: where the last report, spos or zero left it that touched that part
+  pub position-steps : x .next .memory .position .steps ≡ standsAt stepsPart (b .memory .position) (tokensOf all)
+  position-steps = ap (λ (y : Memory). y .position .steps) (dealt .1) ∙ steps-last (tokensOf all) (b .memory)
+
+  pub position-microsteps : x .next .memory .position .microsteps ≡ standsAt microstepsPart (b .memory .position) (tokensOf all)
+  position-microsteps = ap (λ (y : Memory). y .position .microsteps) (dealt .1) ∙ microsteps-last (tokensOf all) (b .memory)
+
+  pub position-count : x .next .memory .position .count ≡ standsAt countPart (b .memory .position) (tokensOf all)
+  position-count = ap (λ (y : Memory). y .position .count) (dealt .1) ∙ count-last (tokensOf all) (b .memory)
+
   -- Demand 2: "After an accepted set, the get of that block returns the same fields, reserved bytes zero, until the next accepted set of that block":
   -- in a run of bytes, the set u, at whose place its own name is heard, then the get g of its block with no set of the block so answered between
-  pub get-after-set : (before between after : List (Token Event)) (u g : List ℕ) (k : ℕ) → ((i : ℕ) → getD (bytes run) i 0 < 256)
-      → tokensOf run ≡ before ++ (whole u ∷ between ++ (whole g ∷ after))
+  pub get-after-set : (before between after : List (Token Event)) (u g : List ℕ) (k : ℕ) → ((i : ℕ) → getD (bytes all) i 0 < 256)
+      → tokensOf all ≡ before ++ (whole u ∷ between ++ (whole g ∷ after))
       → kindAt u ≡ Set k → wordBehind (b .memory) before (x .reply) ≡ leBytes 4 (nameIn setTable k)
       → Without k (act (memoryBehind (b .memory) before) (whole u) .next) between
       → kindAt g ≡ Get k
@@ -214,44 +239,7 @@ module _ {b : Board} {run : List (Item Event)} {x : Said Order Board} (h : Offer
       x .reply ≡ y .reply ++ (getReply k (canonical (rowAt k) (dataIn u)) ++ deal protocol (y .next) after .reply)
   get-after-set before between after u g k low cut set word w get =
       let e : Echoed (memoryBehind (b .memory) before) u k = record { kind = set; reply = sym (heard-is before (between ++ (whole g ∷ after)) u cut k set) ∙ word } in
-      ap (λ (y : Said Order (State Memory)). y .reply) any-cutting ∙ run-get-after-set (b .memory) (b .stamp) run before between after u g k low cut e w get
-
--- ---- FROM ANY SOUND START: what is unfinished on the board counts as the run's front
-
-module _ {b : Board} {run : List (Item Event)} {x : Said Order Board} (h : Offered b run x) (sound : soundBoard b ≡ true) where
-  -- demand 3
-  pub any-start : inState x ≡ wholeRun protocol (b .memory) (b .stamp) (started b run)
-  any-start =
-      let u = take (b .count) (b .held) in
-      let idle : State Memory = stateAt (b .memory) [] (b .stamp) in
-      let joined = steps-join protocol need-law (b .memory) (b .stamp) u [] (sound-begun (stateOf b) sound) in
-      offered-state h ∙ ap (λ (a : Said Order (State Memory)). then a (steps protocol (a .next) run)) (sym joined)
-      ∙ sym (steps-append protocol (at (b .stamp) u) run idle) ∙ steps-is-whole protocol need-law (b .memory) (b .stamp) (started b run)
-
-  -- by the tokens of the run
-  start-dealt : (x .reply ≡ deal protocol (b .memory) (tokensOf (started b run)) .reply) × (x .next .memory ≡ memoryBehind (b .memory) (tokensOf (started b run)))
-  unfolding wholeRun
-  start-dealt = (ap (λ (y : Said Order (State Memory)). y .reply) any-start, ap (λ (y : Said Order (State Memory)). y .next .memory) any-start)
-
-  -- 02, P5: where the drive stands at the end, part by part: where the last report, spos or zero left it that touched that part
-  pub position-steps : x .next .memory .position .steps ≡ standsAt stepsPart (b .memory .position) (tokensOf (started b run))
-  position-steps = ap (λ (y : Memory). y .position .steps) (start-dealt .1) ∙ steps-last (tokensOf (started b run)) (b .memory)
-
-  pub position-microsteps : x .next .memory .position .microsteps ≡ standsAt microstepsPart (b .memory .position) (tokensOf (started b run))
-  position-microsteps = ap (λ (y : Memory). y .position .microsteps) (start-dealt .1) ∙ microsteps-last (tokensOf (started b run)) (b .memory)
-
-  pub position-count : x .next .memory .position .count ≡ standsAt countPart (b .memory .position) (tokensOf (started b run))
-  position-count = ap (λ (y : Memory). y .position .count) (start-dealt .1) ∙ count-last (tokensOf (started b run)) (b .memory)
-
-  -- "gpos, which sends the position as it then stands" (02, P5): that behind the tokens before it
-  pub gpos-sends : (before after : List (Token Event)) (g : List ℕ) → tokensOf (started b run) ≡ before ++ whole g ∷ after → kindAt g ≡ Finds
-      → let m = memoryBehind (b .memory) before in x .reply ≡ deal protocol (b .memory) before .reply ++ (positionReply (m .position) ++ deal protocol m after .reply)
-  unfolding deal
-  gpos-sends before after g cut e =
-      let m = memoryBehind (b .memory) before in
-      start-dealt .0 ∙ ap (λ (ks : List (Token Event)). deal protocol (b .memory) ks .reply) cut
-      ∙ ap (λ (y : Said Order Memory). y .reply) (deal-append protocol before (whole g ∷ after) (b .memory))
-      ∙ ap (λ (y : Said Order Memory). deal protocol (b .memory) before .reply ++ (y .reply ++ deal protocol (y .next) after .reply)) (found m g e)
+      ap (λ (y : Said Order (State Memory)). y .reply) said ∙ run-get-after-set (b .memory) (b .stamp) all before between after u g k low cut e w get
 
 -- "Flags stay set until a fresh board." (01): over any offered run, and so over one call and over one report
 pub flags-kept : {b : Board} {run : List (Item Event)} {x : Said Order Board} → Offered b run x → FlagsStay (b .memory) (x .next .memory)

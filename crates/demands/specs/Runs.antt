@@ -1,7 +1,7 @@
 -- The words of the demands of a run: what is offered in any cutting, and what is said. In quotation marks: sheet 02, P3.
 use Prim.Native.Nat.{ℕ}
 use mathlib.Core.Path.{_≡_}
-use mathlib.Core.Bool.{cond}
+use mathlib.Core.Bool.{true, cond}
 use mathlib.Core.List.{List, [], _∷_, _++_}
 use lib.Dec.{eqb}
 use lib.ListN.{length, take, drop}
@@ -14,6 +14,7 @@ use Rattle.unit.specs.Unit.{Event}
 use Rattle.unit.specs.Protocol.{protocol}
 use Rattle.unit.specs.declared.Memory.{Memory}
 use Rattle.state.specs.State.{stateOf, boardOf}
+use Rattle.state.specs.Sound.{soundBoard}
 use Rattle.state.specs.declared.Board.{Board}
 use Rattle.state.specs.declared.Call.{Call}
 use Rattle.demands.specs.Calls.{Answers}
@@ -38,6 +39,11 @@ heard number e = cond (eqb number 0) (event e ∷ []) []
 -- what a board holds unfinished, at its last stamp, and behind it the run
 abbrev pub started : Board → List (Item Event) → List (Item Event)
 started b run = at (b .stamp) (take (b .count) (b .held)) ++ run
+
+-- where the rule begins that is asked for the run: with nothing unfinished on the board, at the run itself; on any sound board, at what it holds
+pub data From (b : Board) (run : List (Item Event)) : List (Item Event) → Type 0 where
+  idle : b .count ≡ 0 → From b run run
+  sound : soundBoard b ≡ true → From b run (started b run)
 
 -- what the rule finds in a run, in sequence: units, what a wait dropped, and events
 abbrev pub tokensOf : List (Item Event) → List (Token Event)

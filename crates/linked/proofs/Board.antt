@@ -18,7 +18,7 @@ use Rattle.unit.specs.Unit.{Event, freshMemory}
 use Rattle.unit.specs.Protocol.{protocol}
 use Rattle.unit.specs.Touched.{stepsPart, microstepsPart, countPart, standsAt, positionReply}
 use Rattle.state.specs.State.{stateOf}
-use Rattle.state.specs.Sound.{soundBoard, refusalOf}
+use Rattle.state.specs.Sound.{refusalOf}
 use Rattle.state.specs.Returned.{Returned}
 use Rattle.state.specs.declared.Board.{Board}
 use Rattle.state.specs.declared.Call.{Call}
@@ -28,11 +28,11 @@ use Rattle.demands.specs.Calls.{Answers}
 use Rattle.demands.specs.Reports as reports
 use Rattle.demands.specs.Reports.{Reports}
 use Rattle.demands.specs.Runs as runs
-use Rattle.demands.specs.Runs.{inState, onBoard, started, tokensOf, memoryBehind, done, next}
+use Rattle.demands.specs.Runs.{inState, onBoard, From, tokensOf, memoryBehind, done, next}
 use Rattle.demands.proofs.Calls.{promise, refTo, receive-some}
 use Rattle.demands.proofs.Reports.{report-promise, report-some}
 use Rattle.demands.proofs.Positions.{place-promise, place-some}
-use Rattle.demands.proofs.Runs.{from-fresh, any-start, position-steps, position-microsteps, position-count, gpos-sends}
+use Rattle.demands.proofs.Runs.{from-fresh, any-cutting, position-steps, position-microsteps, position-count, gpos-sends}
 use Rattle.board.specs.Answer.{flat}
 use Rattle.board.specs.declared.Answer.{Answer}
 use Rattle.linked.specs.Board.{Starts, Receives, Hears, Locates, allowed, time, place, OrderSeen, orderSeen, saidBy, numbered, Step, called, told, Offered}
@@ -108,25 +108,24 @@ offered-is (next b items rest run x z one more e) =
 pub linked-cutting : {b : Board} {run : List (Item Event)} {x : Said OrderSeen Board} → Starts b → Offered b run x → x ≡ numbered (onBoard (wholeRun protocol freshMemory 0 run))
 linked-cutting (allowed κs a s is) h = let y = offered-is h in y .2 ∙ ap numbered (from-fresh tt tt _ tt is (y .1))
 
--- 02, P5: where the drive stands at the end of a run from any sound board, part by part; and "gpos, which sends the position as it then
--- stands"
-module _ {b : Board} {run : List (Item Event)} {x : Said OrderSeen Board} (h : Offered b run x) (sound : soundBoard b ≡ true) where
+-- Of a run from any board with nothing unfinished and from any sound one: demand 3; where the drive stands at the end, part by part; and "gpos, which sends
+-- the position as it then stands" (02, P5)
+module _ {b : Board} {run all : List (Item Event)} {x : Said OrderSeen Board} (h : Offered b run x) (from : From b run all) where
   abbrev y : (y : Said Order Board) × runs.Offered b run y × (x ≡ numbered y)
   y = offered-is h
 
-  -- demand 3 from any sound start
-  pub linked-start : (z : Said Order Board) × (x ≡ numbered z) × (inState z ≡ wholeRun protocol (b .memory) (b .stamp) (started b run))
-  linked-start = (y .0, y .2, any-start (y .1) sound)
+  pub linked-start : (z : Said Order Board) × (x ≡ numbered z) × (inState z ≡ wholeRun protocol (b .memory) (b .stamp) all)
+  linked-start = (y .0, y .2, any-cutting (y .1) from)
 
-  pub linked-steps : x .next .memory .position .steps ≡ standsAt stepsPart (b .memory .position) (tokensOf (started b run))
-  linked-steps = ap (λ (z : Said OrderSeen Board). z .next .memory .position .steps) (y .2) ∙ position-steps (y .1) sound
+  pub linked-steps : x .next .memory .position .steps ≡ standsAt stepsPart (b .memory .position) (tokensOf all)
+  linked-steps = ap (λ (z : Said OrderSeen Board). z .next .memory .position .steps) (y .2) ∙ position-steps (y .1) from
 
-  pub linked-microsteps : x .next .memory .position .microsteps ≡ standsAt microstepsPart (b .memory .position) (tokensOf (started b run))
-  linked-microsteps = ap (λ (z : Said OrderSeen Board). z .next .memory .position .microsteps) (y .2) ∙ position-microsteps (y .1) sound
+  pub linked-microsteps : x .next .memory .position .microsteps ≡ standsAt microstepsPart (b .memory .position) (tokensOf all)
+  linked-microsteps = ap (λ (z : Said OrderSeen Board). z .next .memory .position .microsteps) (y .2) ∙ position-microsteps (y .1) from
 
-  pub linked-count : x .next .memory .position .count ≡ standsAt countPart (b .memory .position) (tokensOf (started b run))
-  linked-count = ap (λ (z : Said OrderSeen Board). z .next .memory .position .count) (y .2) ∙ position-count (y .1) sound
+  pub linked-count : x .next .memory .position .count ≡ standsAt countPart (b .memory .position) (tokensOf all)
+  linked-count = ap (λ (z : Said OrderSeen Board). z .next .memory .position .count) (y .2) ∙ position-count (y .1) from
 
-  pub linked-gpos : (before after : List (Token Event)) (g : List ℕ) → tokensOf (started b run) ≡ before ++ whole g ∷ after → kindAt g ≡ Finds
+  pub linked-gpos : (before after : List (Token Event)) (g : List ℕ) → tokensOf all ≡ before ++ whole g ∷ after → kindAt g ≡ Finds
       → let m = memoryBehind (b .memory) before in x .reply ≡ deal protocol (b .memory) before .reply ++ (positionReply (m .position) ++ deal protocol m after .reply)
-  linked-gpos before after g cut e = ap (λ (z : Said OrderSeen Board). z .reply) (y .2) ∙ gpos-sends (y .1) sound before after g cut e
+  linked-gpos before after g cut e = ap (λ (z : Said OrderSeen Board). z .reply) (y .2) ∙ gpos-sends (y .1) from before after g cut e
