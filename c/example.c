@@ -1,11 +1,10 @@
 /* A board's main loop: stamped pieces in, replies out, orders to the drive, the time reported when nothing comes, and the drive's position
-   when it has moved. */
+   when it has moved. Then its settings over a restart. */
 #include "rivertosku.h"
 
 #include <inttypes.h>
 #include <stdio.h>
 #include <stdlib.h>
-#include <string.h>
 
 struct arrival {
     uint32_t stamp;
@@ -26,6 +25,8 @@ static const struct arrival line[] = {
     {1040, 18, {'m', 'o', 'v', 'e', 2, 0, 0, 0, 0xFB, 0xFF, 0, 0, 0, 0, 0, 0, 0xDC, 0x3D}},
     {1050, 2, {'g', 'p'}},
     {1060, 2, {'o', 's'}},
+    /* Where it stands is step 0 from now on. */
+    {1070, 4, {'z', 'e', 'r', 'o'}},
     /* Half a command; the rest comes 401 ms later and is read as a new unit. */
     {2000, 2, {'l', 'e'}},
     {2401, 2, {'f', 't'}},
@@ -91,18 +92,31 @@ static void send_reply(const uint8_t *reply, size_t length)
     printf("\n");
 }
 
-/* A board kept in flash over a restart: judged before it is used. */
+/* A field of the settings. */
+static unsigned t1_of(const struct rivertosku_board *board)
+{
+    return rivertosku_brk_of(board->memory.settings.bytes, sizeof board->memory.settings.bytes).t1;
+}
+
+/* A start with what flash has: its settings, or fresh ones where it is refused. */
+static void start(const uint8_t *flash, size_t length)
+{
+    const struct rivertosku_report back = rivertosku_take_back(flash, length);
+    printf("from flash: %u, t1 %u, compared with a fresh board %u\n", (unsigned)back.number, t1_of(&back.board),
+           (unsigned)rivertosku_same(back.board, rivertosku_fresh()));
+}
+
+/* The settings kept in flash over a restart. */
 static void restart(const struct rivertosku_board *board)
 {
-    static uint8_t flash[sizeof *board];
-    memcpy(flash, board, sizeof flash);
-    struct rivertosku_board back;
-    memcpy(&back, flash, sizeof back);
-    printf("from flash: %u, compared %u\n", (unsigned)rivertosku_judge(back), (unsigned)rivertosku_same(back, *board));
-    /* A bit of the flags has tipped over: 2 has become 18, and no board has flags over 7. */
-    flash[offsetof(struct rivertosku_board, memory.notes.flags)] ^= 0x10;
-    memcpy(&back, flash, sizeof back);
-    printf("from flash: %u, compared %u\n", (unsigned)rivertosku_judge(back), (unsigned)rivertosku_same(back, *board));
+    static uint8_t flash[RIVERTOSKU_TABLE];
+    accepted(rivertosku_hand_out(*board, flash, sizeof flash));
+    start(flash, sizeof flash);
+    /* The writer was cut off before its last byte. */
+    start(flash, sizeof flash - 1);
+    /* A bit of the last byte has tipped over, which is a reserved one. */
+    flash[sizeof flash - 1] ^= 0x10;
+    start(flash, sizeof flash);
 }
 
 /* The time, when nothing came. */
@@ -131,9 +145,8 @@ static void offer(struct rivertosku_board *board, const struct arrival *came, st
     size_t left = came->length;
     while (left > 0) {
         uint8_t reply[RIVERTOSKU_ROOM];
-        struct rivertosku_answer answer = rivertosku_receive(*board, piece, left, came->stamp, reply, sizeof reply);
+        const struct rivertosku_answer answer = rivertosku_receive(board, piece, left, came->stamp, reply, sizeof reply);
         accepted(answer.number);
-        *board = answer.board;
         send_reply(reply, answer.written);
         if (answer.order != RIVERTOSKU_NO_ORDER) {
             drive(stepper, &answer);
@@ -156,8 +169,8 @@ int main(void)
             report_position(&board, step(&stepper, board.memory.position));
         }
     }
-    printf("t1 %u, flags %" PRIu64 ", unfinished %" PRIu64 ", stamp %" PRIu32 "\n", (unsigned)board.memory.settings.brk.t1,
-           board.memory.notes.flags, board.count, board.stamp);
+    printf("t1 %u, flags %" PRIu64 ", unfinished %" PRIu64 ", stamp %" PRIu32 "\n", t1_of(&board), board.memory.notes.flags, board.count,
+           board.stamp);
     const struct rivertosku_position at = board.memory.position;
     printf("position %" PRId32 ":%" PRId16 ", count %" PRId64 "\n", at.steps, at.microsteps, at.count);
     restart(&board);

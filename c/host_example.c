@@ -104,11 +104,10 @@ static void send_bytes(struct rivertosku_board *board, const uint8_t *bytes, siz
 
     while (length > 0) {
         uint8_t reply[RIVERTOSKU_ROOM];
-        struct rivertosku_answer call = rivertosku_receive(*board, bytes, length, 1000, reply, sizeof reply);
+        const struct rivertosku_answer call = rivertosku_receive(board, bytes, length, 1000, reply, sizeof reply);
         if (call.number != RIVERTOSKU_ACCEPTED) {
             stop("not accepted", call.number);
         }
-        *board = call.board;
         read_answers(reply, call.written);
         bytes += call.taken;
         length -= call.taken;

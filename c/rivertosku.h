@@ -1,6 +1,7 @@
 /* The proved receiver of a stepper board, and the optimiser's end of its link. `rt staticlib board` and `rt staticlib optimiser` build them
-   into target/staticlib/libboard.a and liboptimiser.a, and `rt staticlib same` the comparison of two boards into libsame.a, for x86-64; a
-   program links what it needs of them. Needs C11 or C++11. */
+   into target/staticlib/libboard.a and liboptimiser.a, `rt staticlib same` the comparison of two boards into libsame.a and `rt staticlib
+   views` what reads the fields of a board's settings into libviews.a, for x86-64; a program links what it needs of them. Needs C11 or
+   C++11. */
 #ifndef RIVERTOSKU_H
 #define RIVERTOSKU_H
 
@@ -22,16 +23,25 @@ extern "C" {
 
 /* The layouts of the structs below: the board's and the optimiser's. A function's name in the archive ends in its layout's number, so that a
    header and an archive of different layouts do not link, whichever function is used. */
-#define RIVERTOSKU_LAYOUT 2
+#define RIVERTOSKU_LAYOUT 3
 #define RIVERTOSKU_HOST_LAYOUT 1
 #define RIVERTOSKU_GLUE(name, number) name##number
 #define RIVERTOSKU_NUMBERED(name, number) RIVERTOSKU_GLUE(name, number)
 #define rivertosku_fresh RIVERTOSKU_NUMBERED(rivertosku_fresh_, RIVERTOSKU_LAYOUT)
 #define rivertosku_judge RIVERTOSKU_NUMBERED(rivertosku_judge_, RIVERTOSKU_LAYOUT)
 #define rivertosku_same RIVERTOSKU_NUMBERED(rivertosku_same_, RIVERTOSKU_LAYOUT)
-#define rivertosku_receive RIVERTOSKU_NUMBERED(rivertosku_receive_, RIVERTOSKU_LAYOUT)
+#define rivertosku_receive_lent RIVERTOSKU_NUMBERED(rivertosku_receive_, RIVERTOSKU_LAYOUT)
 #define rivertosku_report_clock RIVERTOSKU_NUMBERED(rivertosku_report_clock_, RIVERTOSKU_LAYOUT)
 #define rivertosku_report_position RIVERTOSKU_NUMBERED(rivertosku_report_position_, RIVERTOSKU_LAYOUT)
+#define rivertosku_hand_out RIVERTOSKU_NUMBERED(rivertosku_hand_out_, RIVERTOSKU_LAYOUT)
+#define rivertosku_take_back RIVERTOSKU_NUMBERED(rivertosku_take_back_, RIVERTOSKU_LAYOUT)
+#define rivertosku_mov_of RIVERTOSKU_NUMBERED(rivertosku_mov_, RIVERTOSKU_LAYOUT)
+#define rivertosku_eng_of RIVERTOSKU_NUMBERED(rivertosku_eng_, RIVERTOSKU_LAYOUT)
+#define rivertosku_pwr_of RIVERTOSKU_NUMBERED(rivertosku_pwr_, RIVERTOSKU_LAYOUT)
+#define rivertosku_eds_of RIVERTOSKU_NUMBERED(rivertosku_eds_, RIVERTOSKU_LAYOUT)
+#define rivertosku_hom_of RIVERTOSKU_NUMBERED(rivertosku_hom_, RIVERTOSKU_LAYOUT)
+#define rivertosku_brk_of RIVERTOSKU_NUMBERED(rivertosku_brk_, RIVERTOSKU_LAYOUT)
+#define rivertosku_pid_of RIVERTOSKU_NUMBERED(rivertosku_pid_, RIVERTOSKU_LAYOUT)
 #define rivertosku_write_get RIVERTOSKU_NUMBERED(rivertosku_write_get_, RIVERTOSKU_HOST_LAYOUT)
 #define rivertosku_write_order RIVERTOSKU_NUMBERED(rivertosku_write_order_, RIVERTOSKU_HOST_LAYOUT)
 #define rivertosku_write_set RIVERTOSKU_NUMBERED(rivertosku_write_set_, RIVERTOSKU_HOST_LAYOUT)
@@ -44,6 +54,9 @@ extern "C" {
 #define RIVERTOSKU_PIECE 250
 #define RIVERTOSKU_ROOM RIVERTOSKU_FRAME
 
+/* The bytes of all settings: the blocks 1 to 7, each as its get sends it without name and CRC. */
+#define RIVERTOSKU_TABLE 174
+
 /* The number of a call's answer, and of a report's: of the time 0 or 3, of the position 0, 3 or 5. A refused call takes and writes nothing;
    the board stays as it is. */
 enum {
@@ -52,6 +65,12 @@ enum {
     RIVERTOSKU_ROOM_TOO_SMALL = 2,         /* reply room under RIVERTOSKU_ROOM bytes */
     RIVERTOSKU_UNSOUND = 3,                /* no board can be in this state */
     RIVERTOSKU_MICROSTEPS_OUT_OF_RANGE = 5 /* a position with microsteps outside -255..255 */
+};
+
+/* The number of a table handed out or taken back, besides RIVERTOSKU_ACCEPTED and RIVERTOSKU_UNSOUND. */
+enum {
+    RIVERTOSKU_ANOTHER_LENGTH = 1, /* taken back: not RIVERTOSKU_TABLE bytes */
+    RIVERTOSKU_OUT_TOO_SMALL = 2   /* handed out: a buffer under RIVERTOSKU_TABLE bytes */
 };
 
 /* Blocks. The last three are no settings: they stand in the notes, and the optimiser's end does not know them. */
@@ -102,7 +121,8 @@ enum {
     RIVERTOSKU_VALUE_ERROR = 4    /* errv: a set with a field out of range */
 };
 
-/* The blocks. A flag field with a bit set besides its known bits is out of range. */
+/* The blocks, as the functions below read them out of a board's table and as the optimiser writes and reads them. A flag field with a bit set
+   besides its known bits is out of range. */
 
 /* Block 1: speeds 0..100000, accel and decel 1..65535. */
 struct rivertosku_mov {
@@ -175,15 +195,9 @@ struct rivertosku_pid {
     float kdf;
 };
 
-/* A board's settings. */
+/* A board's settings: the blocks in number order, one behind the other, reserved bytes zero. rivertosku_mov_of and so on read the fields. */
 struct rivertosku_settings {
-    struct rivertosku_mov mov;
-    struct rivertosku_eng eng;
-    struct rivertosku_pwr pwr;
-    struct rivertosku_eds eds;
-    struct rivertosku_hom hom;
-    struct rivertosku_brk brk;
-    struct rivertosku_pid pid;
+    uint8_t bytes[RIVERTOSKU_TABLE];
 };
 
 /* Flags, and the block and field that an errv refused last (0 and 0: none). */
@@ -207,8 +221,9 @@ struct rivertosku_memory {
     struct rivertosku_position position;
 };
 
-/* What a board keeps between calls. Read it as you like; change it by rivertosku_receive and the reports only. The gaps of the structs are
-   not set: two boards that are the same need not be the same bytes, in memory or in flash. Compare by rivertosku_same. */
+/* What a board keeps between calls. Read it between them as you like; change it by rivertosku_receive and the reports only. The gaps of
+   the structs are not set: two boards that are the same need not be the same bytes. Compare by rivertosku_same, and keep in flash what
+   rivertosku_hand_out gives and not the struct's bytes. */
 struct rivertosku_board {
     struct rivertosku_memory memory;
     uint8_t held[RIVERTOSKU_FRAME]; /* the bytes of the unfinished unit stand in front; behind them zeros, after each call that takes a byte */
@@ -216,14 +231,22 @@ struct rivertosku_board {
     uint32_t stamp;                 /* of the last byte taken */
 };
 
+/* A board but for its two arrays, which are lent to a call. */
+struct rivertosku_rest {
+    struct rivertosku_notes notes;
+    struct rivertosku_position position;
+    uint64_t count;
+    uint32_t stamp;
+};
+
 struct rivertosku_answer {
-    struct rivertosku_board board;
-    uint64_t taken;     /* bytes of the piece; offer the rest again with its stamp */
-    uint64_t written;   /* reply bytes, to be sent */
-    int32_t steps;      /* where RIVERTOSKU_MOVE goes to, or how far RIVERTOSKU_MOVR goes; 0 with any other order */
-    int16_t microsteps; /* and these, -255..255 */
-    uint8_t number;     /* 0 accepted, else the refusal */
-    uint8_t order;      /* to be carried out now, 0 for none */
+    struct rivertosku_rest rest; /* of the board; rivertosku_receive has stored it there */
+    uint64_t taken;              /* bytes of the piece; offer those behind them again with their stamp */
+    uint64_t written;            /* reply bytes, to be sent */
+    int32_t steps;               /* where RIVERTOSKU_MOVE goes to, or how far RIVERTOSKU_MOVR goes; 0 with any other order */
+    int16_t microsteps;          /* and these, -255..255 */
+    uint8_t number;              /* 0 accepted, else the refusal */
+    uint8_t order;               /* to be carried out now, 0 for none */
 };
 
 struct rivertosku_report {
@@ -234,11 +257,10 @@ struct rivertosku_report {
 /* A board that has taken nothing yet. */
 struct rivertosku_board rivertosku_fresh(void);
 
-/* 0, or RIVERTOSKU_UNSOUND where no board can be in this state; does nothing else. For a board read back from flash: a program that restarts
-   with one judges it before the first call. */
+/* 0, or RIVERTOSKU_UNSOUND where no board can be in this state; does nothing else. For a board that something else may have written to. */
 uint8_t rivertosku_judge(struct rivertosku_board board);
 
-/* Whether two boards are the same: stamp, notes, position, unfinished bytes, and each block as a get sends it, so minus zero is not zero.
+/* Whether two boards are the same: stamp, notes, position, unfinished bytes, and the table byte for byte, so minus zero is not zero.
    Spare bytes and gaps play no part. RIVERTOSKU_SAME, RIVERTOSKU_ANOTHER, or RIVERTOSKU_UNSOUND where one of the two is. In libsame.a. */
 enum {
     RIVERTOSKU_SAME = 0,
@@ -247,10 +269,29 @@ enum {
 uint8_t rivertosku_same(struct rivertosku_board a, struct rivertosku_board b);
 
 /* One call: a piece of bytes that share a stamp in milliseconds, and room for the replies. An accepted call stops when the piece ends,
-   behind an order, or before a byte whose reply does not fit; of a piece that is not empty it takes at least one byte. Piece and reply
-   must not overlap. Here and below a null pointer is fine where the length is 0. */
-struct rivertosku_answer rivertosku_receive(struct rivertosku_board board, const uint8_t *piece, size_t piece_len, uint32_t stamp,
-                                            uint8_t *reply, size_t reply_len);
+   behind an order, or before a byte whose reply does not fit; of a piece that is not empty it takes at least one byte. Here and below a null
+   pointer is fine where the length is 0.
+   The board's arrays are lent and changed where they stand: table points at RIVERTOSKU_TABLE bytes, held at RIVERTOSKU_FRAME. The rest of
+   the board is handed over, and the answer has it as it is then. Table, held, piece and reply must not overlap, and until the call returns
+   no other thread and no interrupt may use any of them. */
+struct rivertosku_answer rivertosku_receive_lent(uint8_t *table, uint8_t *held, struct rivertosku_rest rest, const uint8_t *piece,
+                                                 size_t piece_len, uint32_t stamp, uint8_t *reply, size_t reply_len);
+
+/* The same call on a board where it stands; a refused one leaves it. Board, piece and reply must not overlap, and until the call returns no
+   other thread and no interrupt may use any of them. */
+static inline struct rivertosku_answer rivertosku_receive(struct rivertosku_board *board, const uint8_t *piece, size_t piece_len,
+                                                          uint32_t stamp, uint8_t *reply, size_t reply_len)
+{
+    struct rivertosku_memory *memory = &board->memory;
+    const struct rivertosku_rest rest = {memory->notes, memory->position, board->count, board->stamp};
+    const struct rivertosku_answer answer =
+        rivertosku_receive_lent(memory->settings.bytes, board->held, rest, piece, piece_len, stamp, reply, reply_len);
+    memory->notes = answer.rest.notes;
+    memory->position = answer.rest.position;
+    board->count = answer.rest.count;
+    board->stamp = answer.rest.stamp;
+    return answer;
+}
 
 /* A report of the time, by the counter that stamps the bytes. Unfinished bytes are dropped, without reply or flag, if the last byte came
    over 400 ms ago; nothing else changes, the last stamp neither, so a report does not restart the wait.
@@ -263,6 +304,24 @@ struct rivertosku_report rivertosku_report_clock(struct rivertosku_board board, 
 /* A report of the drive's position. It becomes the board's, which gpos sends; nothing else changes, an unfinished unit stays, and the last
    stamp. RIVERTOSKU_MICROSTEPS_OUT_OF_RANGE changes nothing. Report the position whenever the drive has moved. */
 struct rivertosku_report rivertosku_report_position(struct rivertosku_board board, struct rivertosku_position position);
+
+/* A block of the settings, from the RIVERTOSKU_TABLE bytes of a board's table. Nothing is judged; zeros stand behind the end of a table that
+   is shorter. A gain that is no number comes as some NaN. In libviews.a. */
+struct rivertosku_mov rivertosku_mov_of(const uint8_t *table, size_t table_len);
+struct rivertosku_eng rivertosku_eng_of(const uint8_t *table, size_t table_len);
+struct rivertosku_pwr rivertosku_pwr_of(const uint8_t *table, size_t table_len);
+struct rivertosku_eds rivertosku_eds_of(const uint8_t *table, size_t table_len);
+struct rivertosku_hom rivertosku_hom_of(const uint8_t *table, size_t table_len);
+struct rivertosku_brk rivertosku_brk_of(const uint8_t *table, size_t table_len);
+struct rivertosku_pid rivertosku_pid_of(const uint8_t *table, size_t table_len);
+
+/* For the flash writer: the board's table at the front of out, RIVERTOSKU_TABLE bytes; bytes past them are kept. RIVERTOSKU_OUT_TOO_SMALL,
+   tested first, or RIVERTOSKU_UNSOUND, and out is as it was. */
+uint8_t rivertosku_hand_out(struct rivertosku_board board, uint8_t *out, size_t out_len);
+
+/* A board with the settings of a table that was handed out, and everything else fresh. RIVERTOSKU_ANOTHER_LENGTH, tested first, or
+   RIVERTOSKU_UNSOUND where a field is out of its range or a reserved byte is not zero; the board is then a fresh one. */
+struct rivertosku_report rivertosku_take_back(const uint8_t *bytes, size_t bytes_len);
 
 /* The optimiser's end, in liboptimiser.a. */
 
@@ -349,18 +408,26 @@ RIVERTOSKU_AT(hom, home_delta, 16);
 static_assert(sizeof(struct rivertosku_brk) == 10, "brk");
 static_assert(sizeof(struct rivertosku_pid) == 20, "pid");
 RIVERTOSKU_AT(pid, kpf, 8);
-static_assert(sizeof(struct rivertosku_settings) == 128, "settings");
-RIVERTOSKU_AT(settings, eds, 52);
-RIVERTOSKU_AT(settings, pid, 108);
+static_assert(sizeof(struct rivertosku_settings) == RIVERTOSKU_TABLE, "settings");
+static_assert(RIVERTOSKU_TABLE == RIVERTOSKU_MOV_FRAME + RIVERTOSKU_ENG_FRAME + RIVERTOSKU_PWR_FRAME + RIVERTOSKU_EDS_FRAME +
+                                      RIVERTOSKU_HOM_FRAME + RIVERTOSKU_BRK_FRAME + RIVERTOSKU_PID_FRAME - 7 * 6,
+              "each block's frame less its name and CRC");
 static_assert(sizeof(struct rivertosku_notes) == 24, "notes");
 static_assert(sizeof(struct rivertosku_position) == 16, "position");
 RIVERTOSKU_AT(position, count, 8);
-static_assert(sizeof(struct rivertosku_memory) == 168, "memory");
-/* The held bytes fill whole words; count and stamp follow. */
-static_assert(sizeof(struct rivertosku_board) == 168 + (RIVERTOSKU_FRAME + 7) / 8 * 8 + 16, "board");
-RIVERTOSKU_AT(board, count, 168 + (RIVERTOSKU_FRAME + 7) / 8 * 8);
-static_assert(sizeof(struct rivertosku_answer) == 24 + sizeof(struct rivertosku_board), "answer");
-RIVERTOSKU_AT(answer, number, 22 + sizeof(struct rivertosku_board));
+/* The table and the held bytes fill whole words; notes and position follow the one, count and stamp the other. */
+static_assert(sizeof(struct rivertosku_memory) == 216, "memory");
+RIVERTOSKU_AT(memory, notes, (RIVERTOSKU_TABLE + 7) / 8 * 8);
+static_assert(sizeof(struct rivertosku_board) == 280, "board");
+RIVERTOSKU_AT(board, count, 216 + (RIVERTOSKU_FRAME + 7) / 8 * 8);
+static_assert(sizeof(struct rivertosku_rest) == 56, "rest");
+RIVERTOSKU_AT(rest, position, 24);
+RIVERTOSKU_AT(rest, count, 40);
+RIVERTOSKU_AT(rest, stamp, 48);
+static_assert(sizeof(struct rivertosku_answer) == 80, "answer");
+RIVERTOSKU_AT(answer, taken, 56);
+RIVERTOSKU_AT(answer, steps, 72);
+RIVERTOSKU_AT(answer, number, 78);
 static_assert(sizeof(struct rivertosku_report) == 8 + sizeof(struct rivertosku_board), "report");
 RIVERTOSKU_AT(report, board, 8);
 static_assert(sizeof(struct rivertosku_blocks) == 128, "blocks");

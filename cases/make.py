@@ -7,7 +7,7 @@ import sys
 
 sys.dont_write_bytecode = True
 import model
-from model import ANY, BITS, BLOCKS, FRAME, ORDERS, PIECE, ROWS, TRAVELS, Board, crc, first_bad, frame, fresh, number_of, section, shown
+from model import ANY, BITS, BLOCKS, FRAME, ORDERS, PIECE, ROWS, TABLE, TRAVELS, Board, crc, first_bad, frame, fresh, number_of, section, shown
 from store import store
 
 ROOM = 250  # of a call, where its case does not say
@@ -48,7 +48,7 @@ class Player:
 
     def rest(self):
         b = self.board
-        return b.flags, *b.refused, shown(b.kept['pos']), b.count, b.held[:b.count], b.last
+        return b.flags, *b.refused, shown(b.position), b.count, b.held[:b.count], b.last
 
     # ---- the board
 
@@ -56,9 +56,12 @@ class Player:
         self.case('f')
         self.board = Board()
 
+    def write(self, place, data):
+        self.case('p', room=place, data=data)
+        self.board.table[place:place + len(data)] = data
+
     def put(self, block, data):
-        self.case('p', number_of(block), data=data)
-        self.board.kept[block] = model.numbers_in(block, data)
+        self.write(model.place(block).start, data)
 
     def note(self, flags, block, field):
         self.case('n', data=struct.pack('<III', flags, block, field))
@@ -66,7 +69,7 @@ class Player:
 
     def place(self, position):
         self.case('w', data=packed(position))
-        self.board.kept['pos'] = position
+        self.board.position = position
 
     def hold(self, data, count, stamp=0):
         self.case('h', room=count, stamp=stamp, data=data)
@@ -88,10 +91,19 @@ class Player:
         number = self.board.report_position(position)
         self.line(number, *self.rest())
 
+    def hand_out(self, room):
+        self.case('l', room=room)
+        self.line(*self.board.hand_out(empty(room)))
+
+    def take_back(self, data):
+        self.case('t', data=data)
+        number, self.board = model.take_back(data)
+        self.line(number, *self.rest())
+
     def block(self, block):
         self.case('b', number_of(block))
-        numbers = self.board.kept[block]
-        self.line(first_bad(block, numbers), wide(section(block, numbers)))
+        data = bytes(self.board.table[model.place(block)])
+        self.line(first_bad(block, model.numbers_in(block, data)), wide(data))
 
     def keeps(self):
         self.case('k')
@@ -511,6 +523,78 @@ def drives(p):
     p.drive(STOOD)
 
 
+def set_all(p):
+    """A board that has taken a set of every block, and holds half a command."""
+    p.fresh()
+    for block in BLOCKS:
+        p.say(f'set {block}, reserved not zero')
+        p.call(frame(block, SETS[block], reserved=255))
+    p.say('half a command')
+    p.call(UNKNOWN + b'st')
+
+
+def handed_out(p, label, *rooms):
+    for room in rooms:
+        p.say(f'{label} handed out, room {room}')
+        p.hand_out(room)
+
+
+def refused_in(table):
+    """The same settings with one field out of its range, and its label."""
+    for block, k, n in REFUSED:
+        at = model.place(block)
+        yield f'{FIELDS[block][k]} {n}', table[:at.start] + replaced(block, SETS[block], k, n) + table[at.stop:]
+
+
+def tables(p):
+    """02, P10: the settings handed out, and taken back in other lengths, unsound, and as they were; then sets and gets on that board."""
+    set_all(p)
+    handed_out(p, ' ', 0, TABLE - 1, TABLE, TABLE + 1)
+    stored = bytes(p.board.table)
+    for label, data in [
+            ('nothing', b''), ('one byte short', stored[:-1]), ('one byte more', stored + b'\0'), ('zeros, one too few', bytes(TABLE - 1)),
+            ('zeros', bytes(TABLE)), *refused_in(stored), ('fresh', bytes(Board().table)), ('as it was', stored)]:
+        p.say(f'taken back, {label}')
+        p.take_back(data)
+        handed_out(p, ' ', TABLE)
+    for block in BLOCKS:
+        for unit in (b'g' + block.encode(), frame(block, fresh(block), reserved=255)):
+            p.say(f'then {unit[:4].decode()}')
+            p.call(unit)
+        handed_out(p, ' ', TABLE)
+    p.hold(b'\0', 1)
+    handed_out(p, 'unfinished 00,', TABLE - 1, TABLE)
+
+
+def refused(p, block):
+    """What stays where a board is refused for its settings."""
+    p.note(5, 3, 2)
+    p.place(STOOD)
+    p.hold(b'st', 2, 3)
+    p.say('  bytes')
+    p.call(b'op')
+    p.say('  clock')
+    p.report(1000)
+    p.say('  drive')
+    p.drive(REPORTED)
+    handed_out(p, ' ', TABLE - 1, TABLE)
+    p.say('  block')
+    p.block(block)
+
+
+def reserved(p):
+    """02, P10, "reserved bytes zero in a sound state": each that is not, in stored settings and on a board."""
+    for block in BLOCKS:
+        at = model.place(block)
+        for place in range(at.start + model.used(block), at.stop):
+            p.say(f'taken back, byte {place} not zero')
+            p.take_back(one_more(Board().table, place))
+            p.write(place, b'\x80')
+            p.say('  on a board')
+            p.call(STOP)
+        refused(p, block)
+
+
 def buffers(p):
     """Bytes past the reply keep their value; spare bytes held are zero after a call that took a byte, and no cause for 3."""
     for label, piece, room in [
@@ -545,7 +629,7 @@ def arithmetic(p):
 
 def main():
     p = Player()
-    for cases in (arithmetic, sheet, unsound, stops, blocks, fields, requests, refusals, reports, travels, zeros, drives, buffers):
+    for cases in (arithmetic, sheet, unsound, stops, blocks, fields, requests, refusals, reports, travels, zeros, drives, tables, reserved, buffers):
         cases(p)
     folder = os.path.join(os.path.dirname(os.path.abspath(__file__)), '..', 'crates', 'player')
     store(folder, {'stdin': p.stdin, 'stdout': p.stdout.encode()})

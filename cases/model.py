@@ -17,8 +17,7 @@ BLOCKS = {
 POSITION = ([('i', ANY), ('h', -255, 255), ('q', ANY)], 6)
 TRAVEL = ([('i', ANY), ('h', -255, 255)], 6)
 TRAVELS = {'move': TRAVEL, 'movr': TRAVEL, 'spos': (POSITION[0] + [('B', BITS, 0x03)], 5)}
-KEPT = {**BLOCKS, 'pos': POSITION}  # what a board keeps, and its gets send
-ROWS = {**KEPT, **TRAVELS}
+ROWS = {**BLOCKS, 'pos': POSITION, **TRAVELS}
 NUMBERED = [*BLOCKS, *TRAVELS]
 ORDERS = ['stop', 'sstp', 'pwof', 'left', 'rigt', 'home', 'loft']
 NO_ORDER = (0,)  # an order is its number, and the steps and microsteps that it carries
@@ -39,7 +38,7 @@ def set_name(name):
 
 
 SETS = {set_name(name): name for name in NUMBERED}
-GETS = {'g' + name: name for name in KEPT}
+GETS = {'g' + name: name for name in BLOCKS}
 
 
 def crc(data):
@@ -55,8 +54,18 @@ def layout(name):  # a float is kept as its 32 bits
     return '<' + ''.join(f[0] for f in ROWS[name][0]).replace('F', 'I')
 
 
+def used(name):
+    """The bytes of its fields, which the reserved ones follow."""
+    return struct.calcsize(layout(name))
+
+
+def size(name):
+    """The bytes of its data section."""
+    return used(name) + ROWS[name][1]
+
+
 def total(name):
-    return 4 + struct.calcsize(layout(name)) + ROWS[name][1] + 2
+    return 4 + size(name) + 2
 
 
 FRAME = max(map(total, ROWS))  # the longest frame, which is the least room and what the board can hold
@@ -89,6 +98,26 @@ def numbers_in(name, data):
     return [NAN if f[0] == 'F' and n % 2**31 > 0x7F800000 else n for f, n in zip(ROWS[name][0], numbers)]
 
 
+def cleaned(name, data):
+    """A data section with its reserved bytes zero."""
+    return data[:used(name)] + bytes(ROWS[name][1])
+
+
+def place(name):
+    """Where a block stands in the table of the settings: "the blocks in number order" (02, P10)."""
+    before = sum(size(block) for block in BLOCKS if number_of(block) < number_of(name))
+    return slice(before, before + size(name))
+
+
+TABLE = sum(map(size, BLOCKS))
+
+
+def is_good(table):
+    """Whether every field of a table is in its range and every reserved byte zero."""
+    parts = [(name, table[place(name)]) for name in BLOCKS]
+    return all(first_bad(name, numbers_in(name, data)) == 0 and data == cleaned(name, data) for name, data in parts)
+
+
 def framed(name, data, wrong=0):
     low, high = crc(data)
     return name.encode() + data + bytes([low ^ wrong, high])
@@ -110,7 +139,8 @@ class Board:
     """The bytes held, `count` of which are unfinished, and the rest of a board's state. A board may be made that is not sound."""
 
     def __init__(self):
-        self.kept, self.flags, self.refused = {name: fresh(name) for name in KEPT}, 0, (0, 0)
+        self.table, self.position = bytearray(b''.join(section(name, fresh(name)) for name in BLOCKS)), fresh('pos')
+        self.flags, self.refused = 0, (0, 0)
         self.held, self.count, self.last = bytes(FRAME), 0, 0
 
     def hold(self, unit):
@@ -124,7 +154,7 @@ class Board:
         return name in SETS and self.count < total(SETS[name])
 
     def is_sound(self):
-        return self.is_begun() and self.flags <= 7 and not any(first_bad(*kept) for kept in self.kept.items())
+        return self.is_begun() and self.flags <= 7 and not first_bad('pos', self.position) and is_good(self.table)
 
     def answer(self, unit):
         """Reply, order, and a flag with the field refused, or what is to be kept, of a whole unit; None where it is not whole yet."""
@@ -136,9 +166,11 @@ class Board:
         if name in ORDERS:
             return unit[:4], (ORDERS.index(name) + 1,), None
         if name == 'zero':
-            return unit[:4], NO_ORDER, ('pos', [0, 0, self.kept['pos'][2]])
+            return unit[:4], NO_ORDER, ('pos', [0, 0, self.position[2]])
+        if name == 'gpos':
+            return framed(name, section('pos', self.position)), NO_ORDER, None
         if name in GETS:
-            return framed(name, section(GETS[name], self.kept[GETS[name]])), NO_ORDER, None
+            return framed(name, bytes(self.table[place(GETS[name])])), NO_ORDER, None
         if name in SETS:
             return self.answer_set(SETS[name], unit) if len(unit) == total(SETS[name]) else None
         return b'errc', NO_ORDER, (1, None)
@@ -152,17 +184,19 @@ class Board:
             return b'errv', NO_ORDER, (4, (number_of(name), bad))
         if name in ('move', 'movr'):  # the order has the block's number
             return unit[:4], (number_of(name), *numbers), None
-        return unit[:4], NO_ORDER, ('pos', self.moved(*numbers)) if name == 'spos' else (name, numbers)
+        return unit[:4], NO_ORDER, ('pos', self.moved(*numbers)) if name == 'spos' else (name, cleaned(name, unit[4:-2]))
 
     def moved(self, steps, microsteps, count, flags):
         """The position that an spos leaves."""
-        stood = self.kept['pos']
+        stood = self.position
         return (stood[:2] if flags & 1 else [steps, microsteps]) + (stood[2:] if flags & 2 else [count])
 
     def keep(self, change):
         kind, what = change
-        if kind in KEPT:
-            self.kept[kind] = what
+        if kind in BLOCKS:
+            self.table[place(kind)] = what
+        elif kind == 'pos':
+            self.position = what
         else:
             self.flags, self.refused = self.flags | kind, what or self.refused
 
@@ -205,8 +239,27 @@ class Board:
             return 3
         if first_bad('pos', position):
             return 5
-        self.kept['pos'] = position
+        self.position = position
         return 0
+
+    def hand_out(self, buffer):
+        """Number and buffer of the table handed out."""
+        if len(buffer) < TABLE:
+            return 2, buffer
+        if not self.is_sound():
+            return 3, buffer
+        return 0, bytes(self.table) + buffer[TABLE:]
+
+
+def take_back(data):
+    """Number of a stored table, and the board that takes it back."""
+    board = Board()
+    if len(data) != TABLE:
+        return 1, board
+    if not is_good(data):
+        return 3, board
+    board.table[:] = data
+    return 0, board
 
 
 # ---- the host: "later commands stay outside" (02, P1)

@@ -1,11 +1,12 @@
-// Links the proved receiver, the comparison of boards and the optimiser's end, which `rt staticlib` builds in the folder above.
+// Links the proved receiver, the comparison of boards, the views of a table and the optimiser's end, which `rt staticlib` builds in the folder
+// above.
 use std::path::Path;
 
 fn main() {
     let here = std::env::var("CARGO_MANIFEST_DIR").expect("cargo sets it");
     let folder = Path::new(&here).join("../target/staticlib");
     println!("cargo:rustc-link-search=native={}", folder.display());
-    for name in ["board", "same", "optimiser"] {
+    for name in ["board", "same", "views", "optimiser"] {
         let library = folder.join(format!("lib{name}.a"));
         println!("cargo:rerun-if-changed={}", library.display());
         if !library.is_file() {

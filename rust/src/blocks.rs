@@ -1,4 +1,4 @@
-//! The blocks' fields as the library takes and gives them, on the board and at the optimiser's end.
+//! The blocks' fields as the library takes and gives them, out of a board's table and at the optimiser's end.
 
 /// Block 1.
 #[repr(C)]
@@ -93,10 +93,63 @@ impl PartialEq for Pid {
     }
 }
 
+macro_rules! views {
+    ($($block:ident $view:ident $name:literal;)*) => {
+        extern "C" {
+            $(
+                #[link_name = $name]
+                fn $view(table: *const u8, table_len: usize) -> $block;
+            )*
+        }
+
+        $(impl $block {
+            /// The block in a board's table. Nothing is judged; zeros stand behind the end of a table that is shorter.
+            pub fn of(table: &[u8]) -> $block {
+                // SAFETY: the table is live and of this length; the library does not keep it. The struct is the library's, field for field.
+                unsafe { $view(table.as_ptr(), table.len()) }
+            }
+        })*
+    };
+}
+
+// A library whose board is laid out in another way has another number in these names, and does not link.
+views! {
+    Mov rivertosku_mov "rivertosku_mov_3";
+    Eng rivertosku_eng "rivertosku_eng_3";
+    Pwr rivertosku_pwr "rivertosku_pwr_3";
+    Eds rivertosku_eds "rivertosku_eds_3";
+    Hom rivertosku_hom "rivertosku_hom_3";
+    Brk rivertosku_brk "rivertosku_brk_3";
+    Pid rivertosku_pid "rivertosku_pid_3";
+}
+
 #[cfg(test)]
 mod tests {
     use super::*;
     use std::mem::size_of;
+
+    /// Each block in a table of which every byte tells its place, whole and cut, and in none.
+    #[test]
+    fn blocks_of_a_table() {
+        let table: Vec<u8> = (0..174).collect();
+        assert_eq!(
+            Mov::of(&table),
+            Mov { speed: 0x03020100, u_speed: 4, accel: 0x0605, decel: 0x0807, antiplay_speed: 0x0C0B0A09, u_antiplay_speed: 13 }
+        );
+        assert_eq!((Eng::of(&table).nom_voltage, Eng::of(&table).antiplay, Eng::of(&table).steps_per_rev), (0x1918, 0x2423, 0x2726));
+        assert_eq!(
+            Pwr::of(&table),
+            Pwr { hold_current: 52, curr_reduct_delay: 0x3635, power_off_delay: 0x3837, current_set_time: 0x3A39, power_flags: 59 }
+        );
+        assert_eq!((Eds::of(&table).border_flags, Eds::of(&table).u_right_border), (66, 0x4F4E));
+        assert_eq!((Hom::of(&table).fast_home, Hom::of(&table).home_flags), (0x59585756, 0x6766));
+        assert_eq!(Brk::of(&table), Brk { t1: 0x7271, t2: 0x7473, t3: 0x7675, t4: 0x7877, brake_flags: 121 });
+        assert_eq!((Pid::of(&table).kp_u, Pid::of(&table).kdf.to_bits()), (0x8584, 0x95949392));
+        assert_eq!(Brk::of(&table[..116]), Brk { t1: 0x7271, t2: 0x73, ..Brk::default() });
+        assert_eq!((Mov::of(&[]), Pid::of(&table[..132])), (Mov::default(), Pid::default()));
+        // SAFETY: as in `of`, but for the pointer under test: a null one is fine where the length is 0.
+        assert_eq!(unsafe { rivertosku_hom(std::ptr::null(), 0) }, Hom::default());
+    }
 
     /// The sizes that c/rivertosku.h asserts.
     #[test]

@@ -1,6 +1,7 @@
-//! The proved receiver, libboard.a, behind safe types.
+//! The proved receiver, libboard.a, and the comparison of two boards, libsame.a, behind safe types.
 //!
-//! A `Board` comes from `fresh` and changes by `receive`, `report_clock` and `report_position` only (tests aside), so it is always sound.
+//! A `Board` comes from `fresh` or `take_back` and changes by `receive`, `report_clock` and `report_position` only (tests aside), so it is
+//! always sound.
 //! What a call took and wrote comes as slices: the rest that is to be offered again, and the reply.
 
 use crate::blocks::{Brk, Eds, Eng, Hom, Mov, Pid, Pwr};
@@ -12,18 +13,14 @@ pub const FRAME: usize = 48;
 pub const ROOM: usize = FRAME;
 /// The longest piece that a call accepts.
 pub const PIECE: usize = 250;
+/// The bytes of all settings: the blocks 1 to 7, each as its get sends it without name and CRC.
+pub const TABLE: usize = 174;
 
-/// A board's settings.
+/// A board's settings: the blocks in number order, one behind the other, reserved bytes zero.
 #[repr(C)]
-#[derive(Clone, Copy, Default, PartialEq, Debug)]
+#[derive(Clone, Copy, PartialEq, Debug)]
 pub struct Settings {
-    pub mov: Mov,
-    pub eng: Eng,
-    pub pwr: Pwr,
-    pub eds: Eds,
-    pub hom: Hom,
-    pub brk: Brk,
-    pub pid: Pid,
+    pub bytes: [u8; TABLE],
 }
 
 #[repr(C)]
@@ -53,9 +50,18 @@ pub struct Parts {
     pub stamp: u32,
 }
 
+/// A board but for its arrays, which are lent to a call.
+#[repr(C)]
+struct Rest {
+    notes: Notes,
+    position: Position,
+    count: usize,
+    stamp: u32,
+}
+
 #[repr(C)]
 struct Answer {
-    board: Parts,
+    rest: Rest,
     taken: usize,
     written: usize,
     steps: Steps,
@@ -75,18 +81,31 @@ const _: () = assert!(usize::BITS == 64);
 
 extern "C" {
     // A library whose structs are laid out in another way has another number in these names, and does not link.
-    #[link_name = "rivertosku_fresh_2"]
+    #[link_name = "rivertosku_fresh_3"]
     fn rivertosku_fresh() -> Parts;
-    #[link_name = "rivertosku_judge_2"]
+    #[link_name = "rivertosku_judge_3"]
     fn rivertosku_judge(board: Parts) -> u8;
-    #[link_name = "rivertosku_same_2"]
+    #[link_name = "rivertosku_same_3"]
     fn rivertosku_same(a: Parts, b: Parts) -> u8;
-    #[link_name = "rivertosku_receive_2"]
-    fn rivertosku_receive(board: Parts, piece: *const u8, piece_len: usize, stamp: u32, reply: *mut u8, reply_len: usize) -> Answer;
-    #[link_name = "rivertosku_report_clock_2"]
+    #[link_name = "rivertosku_receive_3"]
+    fn rivertosku_receive_lent(
+        table: &mut [u8; TABLE],
+        held: &mut [u8; FRAME],
+        rest: Rest,
+        piece: *const u8,
+        piece_len: usize,
+        stamp: u32,
+        reply: *mut u8,
+        reply_len: usize,
+    ) -> Answer;
+    #[link_name = "rivertosku_report_clock_3"]
     fn rivertosku_report_clock(board: Parts, now: u32) -> Report;
-    #[link_name = "rivertosku_report_position_2"]
+    #[link_name = "rivertosku_report_position_3"]
     fn rivertosku_report_position(board: Parts, position: Position) -> Report;
+    #[link_name = "rivertosku_hand_out_3"]
+    fn rivertosku_hand_out(board: Parts, out: *mut u8, out_len: usize) -> u8;
+    #[link_name = "rivertosku_take_back_3"]
+    fn rivertosku_take_back(bytes: *const u8, bytes_len: usize) -> Report;
 }
 
 /// 01's number of a call's answer. A report of the time answers `Accepted` or `Unsound`, one of the position `MicrostepsOutOfRange` too,
@@ -109,6 +128,31 @@ impl Number {
             2 => Number::RoomTooSmall,
             3 => Number::Unsound,
             5 => Number::MicrostepsOutOfRange,
+            n => panic!("the library answered number {n}"),
+        }
+    }
+}
+
+/// The number of a table handed out or taken back.
+#[must_use = "a table that is refused is not written, or not the new board's"]
+#[derive(Clone, Copy, PartialEq, Eq, Debug)]
+pub enum TableNumber {
+    Accepted = 0,
+    /// Taken back: not `TABLE` bytes.
+    AnotherLength = 1,
+    /// Handed out: a buffer under `TABLE` bytes.
+    OutTooSmall = 2,
+    Unsound = 3,
+}
+
+impl TableNumber {
+    /// The number that the library answered.
+    fn answered(number: u8) -> TableNumber {
+        match number {
+            0 => TableNumber::Accepted,
+            1 => TableNumber::AnotherLength,
+            2 => TableNumber::OutTooSmall,
+            3 => TableNumber::Unsound,
             n => panic!("the library answered number {n}"),
         }
     }
@@ -176,6 +220,24 @@ pub struct Call<'p, 'r> {
     pub reply: &'r [u8],
 }
 
+impl Parts {
+    /// A call on the board where it stands.
+    ///
+    /// # Safety
+    ///
+    /// Piece and reply are live, of these lengths, apart from each other and from the board; null is fine where the length is 0.
+    unsafe fn receive(&mut self, piece: *const u8, piece_len: usize, stamp: u32, reply: *mut u8, reply_len: usize) -> Answer {
+        let rest = Rest { notes: self.memory.notes, position: self.memory.position, count: self.count, stamp: self.stamp };
+        let answer =
+            rivertosku_receive_lent(&mut self.memory.settings.bytes, &mut self.held, rest, piece, piece_len, stamp, reply, reply_len);
+        self.memory.notes = answer.rest.notes;
+        self.memory.position = answer.rest.position;
+        self.count = answer.rest.count;
+        self.stamp = answer.rest.stamp;
+        answer
+    }
+}
+
 /// A board's state between calls.
 #[derive(Clone, PartialEq, Debug)]
 pub struct Board(Parts);
@@ -193,8 +255,8 @@ impl Board {
         Number::answered(unsafe { rivertosku_judge(self.0) })
     }
 
-    /// Whether two boards are the same: stamp, notes, position, unfinished bytes, and each block as a get sends it, so minus zero is not
-    /// zero. Spare bytes play no part, which `==` compares too. `None` where one of the two is unsound.
+    /// Whether two boards are the same: stamp, notes, position, unfinished bytes, and the table byte for byte, so minus zero is not zero.
+    /// Spare bytes play no part, which `==` compares too. `None` where one of the two is unsound.
     pub fn same(&self, other: &Board) -> Option<bool> {
         // SAFETY: no memory is handed over; any board values are allowed.
         match unsafe { rivertosku_same(self.0, other.0) } {
@@ -207,9 +269,8 @@ impl Board {
 
     /// One call: a piece of bytes that share a stamp in milliseconds, and room for the replies. A refused call changes nothing.
     pub fn receive<'p, 'r>(&mut self, piece: &'p [u8], stamp: u32, reply: &'r mut [u8]) -> Call<'p, 'r> {
-        // SAFETY: both parts are live, of these lengths, and apart; the library keeps neither; any board value is allowed.
-        let answer = unsafe { rivertosku_receive(self.0, piece.as_ptr(), piece.len(), stamp, reply.as_mut_ptr(), reply.len()) };
-        self.0 = answer.board;
+        // SAFETY: all four are live, of these lengths, and apart; the library keeps none; any board value is allowed.
+        let answer = unsafe { self.0.receive(piece.as_ptr(), piece.len(), stamp, reply.as_mut_ptr(), reply.len()) };
         Call {
             number: Number::answered(answer.number),
             taken: answer.taken,
@@ -242,8 +303,52 @@ impl Board {
         Number::answered(report.number)
     }
 
-    pub fn settings(&self) -> &Settings {
-        &self.0.memory.settings
+    /// For a flash writer: the table at the front of `out`, whose bytes past it are kept. `OutTooSmall`, tested first, or `Unsound`, and
+    /// `out` is as it was.
+    pub fn hand_out(&self, out: &mut [u8]) -> TableNumber {
+        // SAFETY: the buffer is live and of this length; the library does not keep it; any board value is allowed.
+        TableNumber::answered(unsafe { rivertosku_hand_out(self.0, out.as_mut_ptr(), out.len()) })
+    }
+
+    /// A board with the settings of a table that was handed out, and everything else fresh. `AnotherLength`, tested first, or `Unsound`
+    /// where a field is out of its range or a reserved byte is not zero; the board is then a fresh one.
+    pub fn take_back(bytes: &[u8]) -> (TableNumber, Board) {
+        // SAFETY: the bytes are live and of this length; the library does not keep them.
+        let report = unsafe { rivertosku_take_back(bytes.as_ptr(), bytes.len()) };
+        (TableNumber::answered(report.number), Board(report.board))
+    }
+
+    /// The settings as they are kept.
+    pub fn table(&self) -> &[u8; TABLE] {
+        &self.0.memory.settings.bytes
+    }
+
+    pub fn mov(&self) -> Mov {
+        Mov::of(self.table())
+    }
+
+    pub fn eng(&self) -> Eng {
+        Eng::of(self.table())
+    }
+
+    pub fn pwr(&self) -> Pwr {
+        Pwr::of(self.table())
+    }
+
+    pub fn eds(&self) -> Eds {
+        Eds::of(self.table())
+    }
+
+    pub fn hom(&self) -> Hom {
+        Hom::of(self.table())
+    }
+
+    pub fn brk(&self) -> Brk {
+        Brk::of(self.table())
+    }
+
+    pub fn pid(&self) -> Pid {
+        Pid::of(self.table())
     }
 
     /// As the drive, spos and zero left it.
@@ -294,12 +399,21 @@ mod tests {
     /// The sizes that c/rivertosku.h asserts. Shown by `cargo test sizes -- --nocapture`.
     #[test]
     fn sizes() {
-        let sizes =
-            [size_of::<Settings>(), size_of::<Notes>(), size_of::<Memory>(), size_of::<Parts>(), size_of::<Answer>(), size_of::<Report>()];
-        println!("settings notes memory board answer report: {sizes:?}");
-        // The held bytes fill whole words; count and stamp follow.
-        let board = 168 + FRAME.next_multiple_of(8) + 16;
-        assert_eq!(sizes, [128, 24, 168, board, 24 + board, 8 + board]);
+        let sizes = [
+            size_of::<Settings>(),
+            size_of::<Notes>(),
+            size_of::<Memory>(),
+            size_of::<Parts>(),
+            size_of::<Rest>(),
+            size_of::<Answer>(),
+            size_of::<Report>(),
+        ];
+        println!("settings notes memory board rest answer report: {sizes:?}");
+        // The table and the held bytes fill whole words.
+        let memory = TABLE.next_multiple_of(8) + 24 + 16;
+        let board = memory + FRAME.next_multiple_of(8) + 16;
+        assert_eq!((memory, board), (216, 280));
+        assert_eq!(sizes, [TABLE, 24, memory, board, 56, 80, 8 + board]);
     }
 
     #[test]
@@ -318,13 +432,14 @@ mod tests {
         let spare = changed(&|parts| parts.held[4] = 1);
         assert!(spare != board && spare.same(&board) == Some(true));
         let others: [&dyn Fn(&mut Parts); 17] = [
-            &|parts| parts.memory.settings.mov.u_antiplay_speed = 1,
-            &|parts| parts.memory.settings.eng.antiplay = -1,
-            &|parts| parts.memory.settings.pwr.power_flags = 1,
-            &|parts| parts.memory.settings.eds.u_right_border = -1,
-            &|parts| parts.memory.settings.hom.home_flags = 0x100,
-            &|parts| parts.memory.settings.brk.t4 = 0x8000,
-            &|parts| parts.memory.settings.pid.kdf = -0.0,
+            // mov's uAntiplaySpeed, eng's Antiplay, PowerFlags, eds's uRightBorder -1, HomeFlags, t4, and minus zero as Kdf
+            &|parts| parts.memory.settings.bytes[13] = 1,
+            &|parts| parts.memory.settings.bytes[35] = 1,
+            &|parts| parts.memory.settings.bytes[59] = 1,
+            &|parts| parts.memory.settings.bytes[78..80].fill(0xFF),
+            &|parts| parts.memory.settings.bytes[103] = 1,
+            &|parts| parts.memory.settings.bytes[120] = 0x80,
+            &|parts| parts.memory.settings.bytes[149] = 0x80,
             &|parts| parts.memory.notes.flags = 1,
             &|parts| parts.memory.notes.block = 1,
             &|parts| parts.memory.notes.field = 1 << 32,
@@ -341,15 +456,18 @@ mod tests {
             let said = [other.same(&board), board.same(&other), other.same(&other)];
             assert_eq!(said, [Some(false), Some(false), Some(true)], "{other:?}");
         }
-        // Another name that is no set's, flags over 7, microsteps past their range, counts past a unit and past the bytes held: unsound,
-        // and so is the comparison.
-        let unsound: [&dyn Fn(&mut Parts); 6] = [
+        // Another name that is no set's, flags over 7, microsteps past their range, counts past a unit and past the bytes held, a field
+        // out of its range, the first reserved byte and the last: unsound, and so is the comparison.
+        let unsound: [&dyn Fn(&mut Parts); 9] = [
             &|parts| parts.held[3] = b's',
             &|parts| parts.memory.notes.flags = 8,
             &|parts| parts.memory.position.microsteps = Microsteps(-256),
             &|parts| parts.memory.position.microsteps = Microsteps(256),
             &|parts| parts.count = FRAME,
             &|parts| parts.count = usize::MAX,
+            &|parts| parts.memory.settings.bytes[52] = 101,
+            &|parts| parts.memory.settings.bytes[14] = 1,
+            &|parts| parts.memory.settings.bytes[173] = 0x80,
         ];
         for change in unsound {
             let other = changed(change);
@@ -358,18 +476,52 @@ mod tests {
         }
     }
 
+    /// What a set changes in the table, and what is left of the board over a restart.
+    #[test]
+    fn handed_out_and_taken_back() {
+        let mut board = Board::fresh();
+        let fresh = *board.table();
+        let call = board.receive(b"sbrk\xFF\xFF\0\0\0\0\0\0\0\0\0\0\0\0\0\0\0\0\0\0\0righttt", 1000, &mut [0; ROOM]).taken;
+        assert_eq!((call, board.flags(), board.unfinished()), (32, 1, &b"ttt"[..]));
+        let mut table = fresh;
+        table[113..115].fill(0xFF);
+        assert_eq!((*board.table(), board.brk()), (table, Brk { t1: 65535, ..Brk::default() }));
+        let mut out = [0xAA; TABLE + 1];
+        assert_eq!((board.hand_out(&mut out[..TABLE - 1]), out), (TableNumber::OutTooSmall, [0xAA; TABLE + 1]));
+        assert_eq!(board.hand_out(&mut out), TableNumber::Accepted);
+        assert_eq!((&out[..TABLE], out[TABLE]), (&table[..], 0xAA));
+        let (number, back) = Board::take_back(&out[..TABLE]);
+        assert_eq!((number, back.table(), back.judge()), (TableNumber::Accepted, &table, Number::Accepted));
+        assert_eq!((back.flags(), back.unfinished(), back.stamp()), (0, &b""[..], 0));
+        for other in [&out[..], &out[..TABLE - 1], &[]] {
+            assert_eq!(Board::take_back(other), (TableNumber::AnotherLength, Board::fresh()));
+        }
+        for (at, byte) in [(52, 101), (14, 1), (173, 0x80)] {
+            let mut parts = *board.parts();
+            parts.memory.settings.bytes[at] = byte;
+            let unsound = Board::from_parts(parts);
+            let mut out = [0xAA; TABLE];
+            assert_eq!((unsound.hand_out(&mut out), out), (TableNumber::Unsound, [0xAA; TABLE]));
+            assert_eq!(unsound.hand_out(&mut out[1..]), TableNumber::OutTooSmall);
+            assert_eq!(Board::take_back(unsound.table()), (TableNumber::Unsound, Board::fresh()));
+        }
+        let unsound = Board::from_parts(Parts { count: FRAME, ..*board.parts() });
+        assert_eq!(unsound.hand_out(&mut out), TableNumber::Unsound);
+    }
+
     /// A null pointer is fine where the length is 0.
     #[test]
     fn null_with_length_0() {
         let (mut room, fresh) = ([0; ROOM], *Board::fresh().parts());
-        // SAFETY: as in `receive`, but for the pointer under test.
-        let answers = unsafe {
-            [
-                rivertosku_receive(fresh, std::ptr::null(), 0, 9, room.as_mut_ptr(), ROOM),
-                rivertosku_receive(fresh, std::ptr::null(), 0, 9, std::ptr::null_mut(), 0),
-            ]
-        };
-        assert_eq!(answers.map(|answer| (answer.number, answer.board)), [(0, fresh), (2, fresh)]);
+        for (reply, reply_len, number) in [(room.as_mut_ptr(), ROOM, 0), (std::ptr::null_mut(), 0, 2)] {
+            let mut board = fresh;
+            // SAFETY: as `receive` wants it; the pointers are under test.
+            let answer = unsafe { board.receive(std::ptr::null(), 0, 9, reply, reply_len) };
+            assert_eq!((answer.number, board), (number, fresh));
+        }
+        // SAFETY: as in `hand_out` and `take_back`, but for the pointer under test.
+        let (number, report) = unsafe { (rivertosku_hand_out(fresh, std::ptr::null_mut(), 0), rivertosku_take_back(std::ptr::null(), 0)) };
+        assert_eq!((number, report.number, report.board), (2, 1, fresh));
     }
 
     #[test]

@@ -1,6 +1,7 @@
 //! The wrong receivers and hosts that a comparison has to catch. Each is the second receiver or host with one fault.
 
-use crate::table::{self, row, DATA, MICRO, POSITION};
+use crate::table::{self, place, row, BLOCKS, MICRO, POSITION};
+use std::ops::Range;
 
 macro_rules! faults {
     ($($case:ident = $name:literal,)*) => {
@@ -47,6 +48,7 @@ faults! {
     GoesOnAfterOrder = "goes-on-after-order",
     EmptySetsStamp = "empty-sets-stamp",
     ReservedKept = "reserved-kept",
+    ReservedRefused = "reserved-refused",
     InfinityPasses = "infinity-passes",
     // A field's flag bits
     UnknownBitPasses = "unknown-bit-passes",
@@ -61,7 +63,41 @@ faults! {
     FlagsOver7 = "unsound-flags",
     FieldOutOfRange = "unsound-field",
     UnknownBit = "unsound-unknown-bit",
+    ReservedNotZero = "unsound-reserved",
+    FirstReservedUntested = "unsound-first-reserved",
+    LastByteUntested = "unsound-last-byte",
     PositionOutOfRange = "unsound-position",
+    // The table: where a set puts its data section and a get finds it
+    PutElsewhere = "put-elsewhere",
+    PutOneLater = "put-one-later",
+    PutOneShort = "put-one-short",
+    PutOneOver = "put-one-over",
+    GetElsewhere = "get-elsewhere",
+    GetOneLater = "get-one-later",
+    BlocksExchanged = "blocks-exchanged",
+    // The table handed out
+    HandOutRoomOneOff = "hand-out-room-one-off",
+    HandOutSoundnessFirst = "hand-out-soundness-first",
+    HandOutUnjudged = "hand-out-unjudged",
+    HandOutJudgesTable = "hand-out-judges-table",
+    HandOutWritesRefused = "hand-out-writes-refused",
+    HandOutWritesWhatFits = "hand-out-writes-what-fits",
+    HandOutOneShort = "hand-out-one-short",
+    HandOutWritesPast = "hand-out-writes-past",
+    // A stored table taken back
+    TakeBackUnjudged = "take-back-unjudged",
+    TakeBackLonger = "take-back-longer",
+    TakeBackShorter = "take-back-shorter",
+    TakeBackSoundnessFirst = "take-back-soundness-first",
+    TakeBackCleansReserved = "take-back-cleans-reserved",
+    TakeBackKeepsRefused = "take-back-keeps-refused",
+    TakeBackOneShort = "take-back-one-short",
+    TakeBackFlags = "take-back-flags",
+    // A block looked at in a table
+    ViewElsewhere = "view-elsewhere",
+    ViewOneLater = "view-one-later",
+    ViewWholeOrZeros = "view-whole-or-zeros",
+    ViewFreshBehind = "view-fresh-behind",
     // A report of the time
     ReportSetsStamp = "report-sets-stamp",
     Report400TooLong = "report-400-too-long",
@@ -124,10 +160,44 @@ faults! {
 impl Fault {
     /// The number of the field for which a receiver with this fault refuses a set's data section, 0 if it takes it.
     #[inline(always)]
-    pub fn bad_field(self, set: usize, data: &[u8; DATA]) -> usize {
+    pub fn bad_field(self, set: usize, data: &[u8]) -> usize {
         match self {
             Fault::None => table::bad_field(set, data),
             _ => self.wrong_field(set, data),
+        }
+    }
+
+    /// The reserved bytes of a block's data section that a receiver with this fault looks at.
+    #[inline(always)]
+    pub fn reserved(self, block: usize, data: &[u8]) -> &[u8] {
+        let reserved = &data[data.len() - row(block).reserved..];
+        match self {
+            Fault::FirstReservedUntested => &reserved[1..],
+            Fault::LastByteUntested if block == BLOCKS => &reserved[..reserved.len() - 1],
+            _ => reserved,
+        }
+    }
+
+    /// Where a receiver with this fault has a block for a put, a get or a view, of which `elsewhere` and `later` are the faults.
+    #[inline(always)]
+    pub fn place(self, block: usize, elsewhere: Fault, later: Fault) -> Range<usize> {
+        match self {
+            Fault::None => place(block),
+            _ => self.wrong_place(block, elsewhere, later),
+        }
+    }
+
+    fn wrong_place(self, block: usize, elsewhere: Fault, later: Fault) -> Range<usize> {
+        let Range { start, end } = place(block);
+        match block {
+            // pwr at the place of eds
+            3 if self == elsewhere => place(4).start..place(4).start + end - start,
+            // brk a byte behind its place
+            6 if self == later => start + 1..end + 1,
+            // eds before pwr, in puts and gets alike
+            3 if self == Fault::BlocksExchanged => place(4).end - (end - start)..place(4).end,
+            4 if self == Fault::BlocksExchanged => place(3).start..place(3).start + (end - start),
+            _ => start..end,
         }
     }
 
@@ -158,6 +228,8 @@ impl Fault {
             (Fault::Microsteps256Pass, 8..) if at_edge(&data[4..6], 256) => bad.retain(|&field| field != 2),
             (Fault::Microsteps255Refused, 8..) if at_edge(&data[4..6], 255) => bad.insert(0, 2),
             (Fault::LeftMicrostepsUntested, 10) if data[POSITION] & 1 != 0 => bad.retain(|&field| field != 2),
+            // The last field is blamed for reserved bytes
+            (Fault::ReservedRefused, _) if data[row(set).used()..].iter().any(|&byte| byte != 0) => bad.push(row(set).fields.len()),
             // PosFlags
             (Fault::Flag4Passes, 10) if data[POSITION] & !0x07 == 0 => bad.retain(|&field| field != 4),
             _ => {}

@@ -1,7 +1,7 @@
 //! Random frames, good and nasty, from a seeded generator.
 
 use crate::second::crc;
-use crate::table::{row, Field, BLOCKS, GPOS, ORDERS, SETS, ZERO};
+use crate::table::{place, row, Field, BLOCKS, GPOS, ORDERS, SETS, TABLE, ZERO};
 
 /// The bench's reply room.
 pub const BENCH_ROOM: usize = 250;
@@ -137,6 +137,43 @@ pub fn zero_data(random: &mut Random, number: usize) -> Vec<u8> {
     data
 }
 
+/// A data section as a board keeps it, reserved bytes zero, but for up to `wrong` fields out of range.
+pub fn kept(random: &mut Random, block: usize, wrong: usize) -> Vec<u8> {
+    let mut bytes = data(random, block, wrong);
+    bytes[row(block).used()..].fill(0);
+    bytes
+}
+
+/// A data section in range of which one reserved byte is not zero: often the first or the last, and often by one bit.
+pub fn unclean(random: &mut Random, block: usize) -> Vec<u8> {
+    let mut bytes = kept(random, block, 0);
+    let (first, last) = (row(block).used(), bytes.len() - 1);
+    let any = first + random.below(last + 1 - first);
+    bytes[random.pick(&[first, last, any, any])] = random.pick(&[1, 0x10, 0x80, 0xFF]);
+    bytes
+}
+
+/// The table of a sound board.
+pub fn sound_table(random: &mut Random) -> Vec<u8> {
+    (1..=BLOCKS).flat_map(|block| kept(random, block, 0)).collect()
+}
+
+/// What flash may have: a sound table, one with a block that is not, a bit tipped over, or bytes of another number.
+pub fn stored(random: &mut Random) -> Vec<u8> {
+    let mut table = sound_table(random);
+    let block = any_block(random);
+    match random.below(10) {
+        0 | 1 => table[place(block)].copy_from_slice(&kept(random, block, 1)),
+        2 | 3 => table[place(block)].copy_from_slice(&unclean(random, block)),
+        4 => table[random.below(TABLE)] ^= 1 << random.below(8),
+        _ => {}
+    }
+    let any = random.below(2 * TABLE);
+    let length = if random.percent(70) { TABLE } else { random.pick(&[0, TABLE - 1, TABLE + 1, place(block).start, any]) };
+    table.resize(length, random.pick(&[0, 0xFF]));
+    table
+}
+
 /// Which sets or names a frame is to be drawn from.
 pub type Draw<T> = fn(&mut Random) -> T;
 
@@ -270,7 +307,28 @@ pub fn answer(random: &mut Random) -> Vec<u8> {
 #[cfg(test)]
 mod tests {
     use super::*;
+    use crate::fault::Fault;
+    use crate::second::Second;
     use crate::table::ROWS;
+
+    /// Sound tables are, and of those with a section that is not clean each reserved byte is the only cause at some time.
+    #[test]
+    fn tables() {
+        let mut random = Random(1);
+        let second = |table: Vec<u8>| Second { table: table.try_into().expect("a whole table"), ..Second::fresh() };
+        let mut seen = [false; TABLE];
+        for round in 0..10_000 {
+            let mut table = sound_table(&mut random);
+            assert_eq!(second(table.clone()).unsound_table(Fault::None), None);
+            let block = 1 + round % BLOCKS;
+            table[place(block)].copy_from_slice(&unclean(&mut random, block));
+            assert_eq!(second(table.clone()).unsound_table(Fault::None), Some(Fault::ReservedNotZero));
+            let from = place(block).start + row(block).used();
+            let at = table[from..place(block).end].iter().position(|&byte| byte != 0).expect("a byte that is not zero");
+            seen[from + at] = true;
+        }
+        assert_eq!(seen.iter().filter(|&&seen| seen).count(), ROWS[..BLOCKS].iter().map(|row| row.reserved).sum());
+    }
 
     fn number(bytes: &[u8]) -> u64 {
         bytes.iter().rev().fold(0, |n, &byte| n << 8 | byte as u64)

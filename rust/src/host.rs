@@ -328,7 +328,7 @@ mod tests {
     /// All blocks but the one read are fresh, and all of them in a refusal.
     #[test]
     fn other_blocks_are_fresh() {
-        let fresh = same::blocks_of(Board::fresh().settings());
+        let fresh = same::blocks_of(&Board::fresh());
         let data = brake_frame(b'g');
         let cases: [(&[u8], _, Blocks); 6] = [
             (&data, (0, 4, 6, 25), Blocks { brk: Brk { t1: 65535, ..Brk::default() }, ..fresh }),
@@ -422,7 +422,7 @@ mod tests {
         ];
         for fields in sets {
             assert_eq!(ask(&mut board, Request::Set(fields)), Answer::SetEcho(fields.block()));
-            assert_eq!(Fields::of(&same::blocks_of(board.settings()), fields.block()), fields);
+            assert_eq!(Fields::of(&same::blocks_of(&board), fields.block()), fields);
             assert_eq!(ask(&mut board, Request::Get(fields.block())), Answer::Data(fields));
         }
         assert_eq!(ask(&mut board, Request::Order(Order::Home)), Answer::OrderEcho(Order::Home));

@@ -8,5 +8,6 @@ pub mod host;
 pub mod position;
 pub mod same;
 pub mod second;
+pub mod second_flash;
 pub mod second_host;
 pub mod table;

@@ -1,16 +1,18 @@
 //! Where the library meets the second receiver and host: the library's records and the second's bytes, each turned into the other, and
 //! what differs.
 
-use crate::board::{Board, Parts, Settings};
+use crate::blocks::{Brk, Eds, Eng, Hom, Mov, Pid, Pwr};
+use crate::board::{Board, Parts, TableNumber, TABLE};
 use crate::fault::Fault;
 use crate::host::{self, Answer, Block, Blocks, Fields, Order, ReadRefusal, Request, WriteRefusal, FRAME};
 use crate::position::{Position, Travel};
 use crate::second::Second;
+use crate::second_flash;
 use crate::second_host;
-use crate::table::{BLOCKS, DATA, POSITION, TRAVEL};
+use crate::table::{place, BLOCKS, POSITION, TRAVEL};
 
-// The table of the second ones is to have the library's longest frame.
-const _: () = assert!(FRAME == crate::table::FRAME);
+// The rows of the second ones are to have the library's longest frame, and as many bytes of settings.
+const _: () = assert!(FRAME == crate::table::FRAME && TABLE == crate::table::TABLE);
 
 /// A field on the wire, low byte first.
 trait Field {
@@ -57,31 +59,17 @@ fn fields(blocks: &mut Blocks, block: usize) -> Vec<&mut dyn Field> {
 }
 
 /// The board's settings as the host's blocks.
-pub fn blocks_of(settings: &Settings) -> Blocks {
-    let Settings { mov, eng, pwr, eds, hom, brk, pid } = *settings;
-    Blocks { mov, eng, pwr, eds, hom, brk, pid }
+pub fn blocks_of(board: &Board) -> Blocks {
+    Blocks { mov: board.mov(), eng: board.eng(), pwr: board.pwr(), eds: board.eds(), hom: board.hom(), brk: board.brk(), pid: board.pid() }
 }
 
-/// The host's blocks as the board's settings.
-fn settings_of(blocks: &Blocks) -> Settings {
-    let Blocks { mov, eng, pwr, eds, hom, brk, pid } = *blocks;
-    Settings { mov, eng, pwr, eds, hom, brk, pid }
-}
-
-/// These fields one behind the other, zeros behind them.
+/// These fields one behind the other.
 fn bytes_of<const N: usize>(fields: &[&mut dyn Field]) -> [u8; N] {
     let mut bytes = Vec::with_capacity(N);
     for field in fields {
         field.write(&mut bytes);
     }
-    let mut filled = [0; N];
-    filled[..bytes.len()].copy_from_slice(&bytes);
-    filled
-}
-
-/// A block's data section, zeros behind it.
-fn data_of(settings: &Settings, block: usize) -> [u8; DATA] {
-    bytes_of(&fields(&mut blocks_of(settings), block))
+    bytes.try_into().expect("as many bytes as the fields have")
 }
 
 pub fn travel_bytes(mut travel: Travel) -> [u8; TRAVEL] {
@@ -99,11 +87,9 @@ fn put_fields(blocks: &mut Blocks, block: usize, mut data: &[u8]) {
     }
 }
 
-/// Puts a data section into the settings, in range or not.
-pub fn put_data(settings: &mut Settings, block: usize, data: &[u8]) {
-    let mut blocks = blocks_of(settings);
-    put_fields(&mut blocks, block, data);
-    *settings = settings_of(&blocks);
+/// Puts a data section into a board's table, in range or not, reserved bytes zero or not.
+pub fn put_data(parts: &mut Parts, block: usize, data: &[u8]) {
+    parts.memory.settings.bytes[place(block)].copy_from_slice(data);
 }
 
 /// The second receiver in a board's state.
@@ -111,7 +97,7 @@ pub fn second_of(parts: &Parts) -> Second {
     let notes = parts.memory.notes;
     let position = position_bytes(parts.memory.position);
     Second {
-        data: std::array::from_fn(|i| data_of(&parts.memory.settings, i + 1)),
+        table: parts.memory.settings.bytes,
         position,
         last_set: position,
         flags: notes.flags,
@@ -126,7 +112,7 @@ pub fn second_of(parts: &Parts) -> Second {
 pub fn difference(board: &Board, second: &Second) -> Option<String> {
     let parts = board.parts();
     for block in 1..=BLOCKS {
-        let (a, b) = (data_of(&parts.memory.settings, block), second.data[block - 1]);
+        let (a, b) = (&board.table()[place(block)], &second.table[place(block)]);
         if a != b {
             return Some(format!("block {block}: library {a:02x?}, second {b:02x?}"));
         }
@@ -168,15 +154,23 @@ fn fields_in(number: usize, data: &[u8]) -> Fields {
 }
 
 /// One NaN for all, since the machine bits of a NaN are not promised.
-fn one_nan(mut answer: Answer) -> Answer {
-    if let Answer::Data(Fields::Pid(pid)) = &mut answer {
+fn one_nan(mut fields: Fields) -> Fields {
+    if let Fields::Pid(pid) = &mut fields {
         for gain in [&mut pid.kpf, &mut pid.kif, &mut pid.kdf] {
             if gain.is_nan() {
                 *gain = f32::NAN;
             }
         }
     }
-    answer
+    fields
+}
+
+/// The same in an answer.
+fn one_nan_read(answer: Answer) -> Answer {
+    match answer {
+        Answer::Data(fields) => Answer::Data(one_nan(fields)),
+        _ => answer,
+    }
 }
 
 /// The second host's request as the library takes it.
@@ -226,10 +220,71 @@ pub fn write(request: &second_host::Request, room: usize, fault: Fault, salt: us
 pub fn read(bytes: &[u8], fault: Fault) -> Result<Result<(Answer, usize), ReadRefusal>, String> {
     let ours = host::read(bytes);
     let theirs = second_host::read(fault, bytes);
-    let a = ours.map(|(answer, length)| (one_nan(answer), length)).map_err(|refusal| refusal as u8);
-    let b = theirs.map(|(answer, length)| (one_nan(answer_of(&answer)), length));
+    let a = ours.map(|(answer, length)| (one_nan_read(answer), length)).map_err(|refusal| refusal as u8);
+    let b = theirs.map(|(answer, length)| (one_nan_read(answer_of(&answer)), length));
     if a != b {
         return Err(format!("{bytes:02x?}, answer and length or refusal: library {a:?}, second {b:?}"));
     }
     Ok(ours)
+}
+
+/// Both hand out their table into this much room: the table or the refusal, or in what they differ.
+pub fn hand_out(board: &Board, second: &Second, room: usize, fault: Fault, salt: usize) -> Result<Result<Vec<u8>, TableNumber>, String> {
+    // The buffer goes on behind the room, to see that nothing is written there.
+    let (mut ours, mut theirs) = buffers::<{ 2 * TABLE }>(salt);
+    let a = board.hand_out(&mut ours[..room]);
+    let b = second.hand_out(fault, &mut theirs[..room]);
+    if a as u8 != b {
+        return Err(format!("handed out into {room} bytes, number: library {a:?}, second {b}"));
+    }
+    if ours != theirs {
+        return Err(format!("handed out into {room} bytes, buffer: library {ours:02x?}, second {theirs:02x?}"));
+    }
+    Ok(if a == TableNumber::Accepted { Ok(ours[..TABLE].to_vec()) } else { Err(a) })
+}
+
+/// Both take a stored table back: the number and both boards, or in what they differ.
+pub fn take_back(bytes: &[u8], fault: Fault) -> Result<(TableNumber, Board, Second), String> {
+    let (number, board) = Board::take_back(bytes);
+    let (b, second) = Second::take_back(fault, bytes);
+    if number as u8 != b {
+        return Err(format!("taken back {bytes:02x?}, number: library {number:?}, second {b}"));
+    }
+    if let Some(text) = difference(&board, &second) {
+        return Err(format!("taken back {bytes:02x?}, {text}"));
+    }
+    // The library's record besides: the very same as a fresh one, but for the table if it is accepted.
+    let mut expected = *Board::fresh().parts();
+    if number == TableNumber::Accepted {
+        expected.memory.settings.bytes.copy_from_slice(bytes);
+    }
+    if *board.parts() != expected {
+        return Err(format!("taken back {bytes:02x?}, the record: {:?}, not {expected:?}", board.parts()));
+    }
+    Ok((number, board, second))
+}
+
+/// A block's fields as the library has them of a table.
+fn viewed(table: &[u8], block: Block) -> Fields {
+    match block {
+        Block::Mov => Fields::Mov(Mov::of(table)),
+        Block::Eng => Fields::Eng(Eng::of(table)),
+        Block::Pwr => Fields::Pwr(Pwr::of(table)),
+        Block::Eds => Fields::Eds(Eds::of(table)),
+        Block::Hom => Fields::Hom(Hom::of(table)),
+        Block::Brk => Fields::Brk(Brk::of(table)),
+        Block::Pid => Fields::Pid(Pid::of(table)),
+    }
+}
+
+/// Both look at each block of a table, whole or not: in what they differ.
+pub fn view(table: &[u8], fault: Fault) -> Result<(), String> {
+    for number in 1..=BLOCKS {
+        let a = one_nan(viewed(table, block_numbered(number)));
+        let b = one_nan(fields_in(number, &second_flash::view(fault, table, number)));
+        if a != b {
+            return Err(format!("block {number} of {table:02x?}: library {a:?}, second {b:?}"));
+        }
+    }
+    Ok(())
 }

@@ -1,9 +1,9 @@
-//! A second receiver, written from sheets 01 and 02, with no code or table of the library. It goes byte by byte and keeps each block as
-//! the data section that a get sends, and the position as gpos sends it.
+//! A second receiver, written from sheets 01 and 02, with no code or table of the library. It goes byte by byte and keeps the settings as
+//! one table, each block as the data section that a get sends, and the position as gpos sends it.
 //! It can be broken on purpose (`Fault`), to see that a comparison notices.
 
 use crate::fault::Fault;
-use crate::table::{self, row, BLOCKS, DATA, FRAME, GPOS, GPOS_TOTAL, MICRO, POSITION, TOTAL, TRAVEL, ZERO};
+use crate::table::{self, place, row, BLOCKS, DATA, FRAME, GPOS, GPOS_TOTAL, MICRO, POSITION, TABLE, TOTAL, TRAVEL, ZERO};
 
 /// 01's longest piece, and the longest wait inside a unit.
 const PIECE: usize = 250;
@@ -11,8 +11,8 @@ const WAIT: u32 = 400;
 
 #[derive(Clone, PartialEq, Debug)]
 pub struct Second {
-    /// Each block's data section, reserved bytes zero, zeros behind it.
-    pub data: [[u8; DATA]; BLOCKS],
+    /// Each block's data section at its place, reserved bytes zero.
+    pub table: [u8; TABLE],
     /// Steps, microsteps and encoder count.
     pub position: [u8; POSITION],
     /// The position that spos set last: no part of the state, but what a wrong gpos sends.
@@ -115,16 +115,16 @@ impl Second {
 
     /// A fresh receiver that is wrong in one place.
     pub fn broken_fresh(fault: Fault) -> Second {
-        let mut data = [[0; DATA]; BLOCKS];
-        for (i, data) in data.iter_mut().enumerate() {
-            let fresh = row(i + 1).fresh();
-            data[..fresh.len()].copy_from_slice(&fresh);
+        let mut table = [0; TABLE];
+        for block in 1..=BLOCKS {
+            let fresh = row(block).fresh();
+            table[place(block)][..fresh.len()].copy_from_slice(&fresh);
         }
         let mut position = [0; POSITION];
         if fault == Fault::FreshPosition {
             position[TRAVEL] = 1;
         }
-        Second { data, position, last_set: [0; POSITION], flags: 0, refused: (0, 0), unit: [0; FRAME], len: 0, stamp: 0 }
+        Second { table, position, last_set: [0; POSITION], flags: 0, refused: (0, 0), unit: [0; FRAME], len: 0, stamp: 0 }
     }
 
     /// One call of 01.
@@ -159,7 +159,7 @@ impl Second {
 
     /// The rule of soundness that the state breaks, if one.
     #[inline(always)]
-    fn unsound(&self, fault: Fault) -> Option<Fault> {
+    pub fn unsound(&self, fault: Fault) -> Option<Fault> {
         match self.len {
             0 => {}
             1..=3 if self.unit[0] == 0 => return Some(Fault::ZeroBegins),
@@ -174,15 +174,32 @@ impl Second {
         if self.flags > 7 {
             return Some(Fault::FlagsOver7);
         }
+        if !MICRO.takes(&self.position[4..TRAVEL]) {
+            return Some(Fault::PositionOutOfRange);
+        }
+        self.unsound_table(fault)
+    }
+
+    /// The rule of soundness that the table breaks, if one.
+    #[inline(always)]
+    pub fn unsound_table(&self, fault: Fault) -> Option<Fault> {
+        if fault == Fault::None && table::is_sound(&self.table) {
+            return None;
+        }
+        self.broken_rule(fault)
+    }
+
+    fn broken_rule(&self, fault: Fault) -> Option<Fault> {
         for block in 1..=BLOCKS {
-            let bad = fault.bad_field(block, &self.data[block - 1]);
+            let data = &self.table[place(block)];
+            let bad = fault.bad_field(block, data);
             if bad != 0 {
                 let flags = row(block).fields[bad - 1].has_flags();
                 return Some(if flags { Fault::UnknownBit } else { Fault::FieldOutOfRange });
             }
-        }
-        if !MICRO.takes(&self.position[4..TRAVEL]) {
-            return Some(Fault::PositionOutOfRange);
+            if fault.reserved(block, data).iter().any(|&byte| byte != 0) {
+                return Some(Fault::ReservedNotZero);
+            }
         }
         None
     }
@@ -381,7 +398,7 @@ impl Second {
         self.unit[at] = byte;
         self.len = at + 1;
         if fault == Fault::StoredAsTheyCome && at >= 4 && begun <= BLOCKS && at < 4 + row(begun).used() {
-            self.data[begun - 1][at - 4] = byte;
+            self.table[place(begun)][at - 4] = byte;
         }
     }
 
@@ -406,7 +423,7 @@ impl Second {
                 to.copy_from_slice(&self.unit[..4]);
                 out.order = order;
             }
-            End::Get(block) => self.send(fault, &self.data[block - 1], to),
+            End::Get(block) => self.send(fault, &self.table[fault.place(block, Fault::GetElsewhere, Fault::GetOneLater)], to),
             End::Position => self.send_position(fault, to),
             End::Clear => self.clear(fault, to, out),
             End::Set(set) => to.copy_from_slice(&self.judge(fault, set, out)),
@@ -416,11 +433,10 @@ impl Second {
         }
     }
 
-    /// A get's reply: as much of the data section as it has room for.
+    /// A get's reply, which has room for its data section.
     #[inline(always)]
-    fn send(&self, fault: Fault, data: &[u8; DATA], to: &mut [u8]) {
+    fn send(&self, fault: Fault, data: &[u8], to: &mut [u8]) {
         let end = to.len() - 2;
-        let data = &data[..end - 4];
         let sum = crc(data);
         to[..4].copy_from_slice(&self.unit[..4]);
         to[4..end].copy_from_slice(data);
@@ -437,7 +453,7 @@ impl Second {
         if fault == Fault::GposExchanged {
             position[..TRAVEL].rotate_left(4);
         }
-        let mut data = [0; DATA];
+        let mut data = [0; GPOS_TOTAL - 6];
         data[..POSITION].copy_from_slice(&position);
         self.send(fault, &data, to);
     }
@@ -475,13 +491,14 @@ impl Second {
         }
         let mut data = [0; DATA];
         data.copy_from_slice(&self.unit[4..4 + DATA]);
-        let bad = fault.bad_field(set, &data);
-        let used = total - 6 - row(set).reserved;
+        let section = &data[..total - 6];
+        let bad = fault.bad_field(set, section);
         if bad != 0 {
             self.raise(fault, 4);
             self.refused = (if fault == Fault::MovrRefusedAsMove && set == 9 { 8 } else { set }, bad);
             if fault == Fault::HalfASetting && set <= BLOCKS {
-                self.keep(set, &data, used / 2);
+                let half = row(set).used() / 2;
+                self.table[place(set)][..half].copy_from_slice(&section[..half]);
             }
             return *b"errv";
         }
@@ -492,16 +509,27 @@ impl Second {
         match set {
             8 | 9 => self.travel(fault, set, &data, out),
             10 => self.put_position(fault, &data),
-            _ if fault == Fault::ReservedKept => self.keep(set, &data, total - 6),
-            _ => self.keep(set, &data, used),
+            _ => self.keep(fault, set, section),
         }
         [self.unit[0], self.unit[1], self.unit[2], self.unit[3]]
     }
 
-    /// Keeps so many bytes of a block's data section.
+    /// Keeps a block's data section at its place, reserved bytes zero.
     #[inline(always)]
-    fn keep(&mut self, block: usize, data: &[u8; DATA], bytes: usize) {
-        self.data[block - 1][..bytes].copy_from_slice(&data[..bytes]);
+    fn keep(&mut self, fault: Fault, block: usize, section: &[u8]) {
+        let used = section.len() - row(block).reserved;
+        let kept = match fault {
+            Fault::ReservedKept => section.len(),
+            Fault::PutOneShort => used - 1,
+            _ => used,
+        };
+        let at = fault.place(block, Fault::PutElsewhere, Fault::PutOneLater);
+        if fault == Fault::PutOneOver && block < BLOCKS {
+            self.table[at.end] = 0;
+        }
+        let to = &mut self.table[at];
+        to[..kept].copy_from_slice(&section[..kept]);
+        to[kept.max(used)..].fill(0);
     }
 
     /// An accepted move or movr.
@@ -541,6 +569,7 @@ impl Second {
 #[cfg(test)]
 mod tests {
     use super::*;
+    use crate::generator::{self, Random};
 
     fn set(name: &[u8; 4], front: &[u8], zeros: usize, sum: [u8; 2]) -> Vec<u8> {
         [&name[..], front, &vec![0; zeros], &sum].concat()
@@ -573,11 +602,11 @@ mod tests {
     fn sets_and_gets() {
         let mut second = Second::fresh();
         assert_eq!(offer(&mut second, &set(b"sbrk", &[0xFF; 2], 17, [1, 0]), 0).0, b"errd");
-        assert_eq!((second.data[5], second.flags), ([0; DATA], 2));
+        assert_eq!((&second.table[place(6)], second.flags), (&[0; 19][..], 2));
         assert_eq!(offer(&mut second, &set(b"sbrk", &[0xFF; 2], 17, [0, 0]), 0).0, b"sbrk");
         assert_eq!(offer(&mut second, b"gbrk", 0).0, set(b"gbrk", &[0xFF; 2], 17, [0, 0]));
         assert_eq!(offer(&mut second, &set(b"smov", &[0xFF; 2], 22, [0, 0]), 0).0, b"errv");
-        assert_eq!((second.refused, second.flags, second.data[0][0]), ((1, 3), 6, 0));
+        assert_eq!((second.refused, second.flags, second.table[0]), ((1, 3), 6, 0));
         assert_eq!(offer(&mut second, &set(b"spwr", &[0xFF; 2], 12, [0, 0]), 0).0, b"errv");
         assert_eq!(second.refused, (3, 1));
     }
@@ -591,7 +620,7 @@ mod tests {
         for (block, field, at, bits, known) in flags {
             for bit in 0..bits {
                 let mut second = Second::fresh();
-                let data = &mut second.data[block - 1];
+                let data = &mut second.table[place(block)];
                 data[at + bit / 8] |= 1 << (bit % 8);
                 let (bad, number) = if known >> bit & 1 == 1 { (0, 0) } else { (field, 3) };
                 assert_eq!(table::bad_field(block, data), bad);
@@ -600,9 +629,50 @@ mod tests {
         }
     }
 
+    /// Sets go to their places with their reserved bytes zero, and a state with any of these not zero is not sound.
+    #[test]
+    fn one_table() {
+        let mut second = Second::fresh();
+        for block in 1..=BLOCKS {
+            let before = second.table;
+            let section = [row(block).fresh(), vec![block as u8; row(block).reserved]].concat();
+            assert_eq!(offer(&mut second, &row(block).set_frame(&section), 0).0, row(block).set);
+            assert_eq!(second.table, before);
+        }
+        assert_eq!(offer(&mut second, &set(b"sbrk", &[0xFF; 2], 17, [0, 0]), 0).0, b"sbrk");
+        let mut table = Second::fresh().table;
+        table[113..115].fill(0xFF);
+        assert_eq!(second.table, table);
+        let mut reserved = 0;
+        for block in 1..=BLOCKS {
+            for at in place(block).skip(row(block).used()) {
+                let mut second = second.clone();
+                second.table[at] = 1;
+                assert_eq!(second.call(b"", 0, &mut [0; FRAME]).number, 3);
+                reserved += 1;
+            }
+        }
+        assert_eq!(reserved, 77);
+    }
+
+    /// Written out or by a loop, the soundness of a table is the same.
+    #[test]
+    fn tables() {
+        let mut random = Random(1);
+        let mut sound = [0; 2];
+        for _ in 0..10_000 {
+            let Ok(table) = generator::stored(&mut random).try_into() else { continue };
+            let second = Second { table, ..Second::fresh() };
+            let broken = second.broken_rule(Fault::None);
+            assert_eq!(table::is_sound(&second.table), broken.is_none());
+            sound[broken.is_none() as usize] += 1;
+        }
+        assert!(sound.iter().all(|&tables| tables > 1000));
+    }
+
     #[test]
     fn flags_in_numbered_order() {
-        let mut eng = Second::fresh().data[1];
+        let mut eng = Second::fresh().table[place(2)].to_vec();
         for (at, field) in [(13, 7), (10, 5), (7, 3)] {
             eng[at] = 0xFF;
             assert_eq!(table::bad_field(2, &eng), field);

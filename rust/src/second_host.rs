@@ -131,6 +131,7 @@ pub fn read(fault: Fault, bytes: &[u8]) -> Result<(Answer, usize), u8> {
 mod tests {
     use super::*;
     use crate::second::Second;
+    use crate::table::place;
 
     /// 01's frame of brk with t1 65535, behind the letter of a set or a get.
     fn brake_frame(letter: u8) -> Vec<u8> {
@@ -170,7 +171,7 @@ mod tests {
         let flags = [(2, 9, 16, 0xFF), (3, 7, 8, 0x07), (4, 0, 8, 0x0F), (4, 1, 8, 0x07), (5, 16, 16, 0x1FF), (6, 8, 8, 0x03)];
         for (number, at, bits, known) in flags {
             for bit in 0..bits {
-                let mut data = Second::fresh().data[number - 1];
+                let mut data = Second::fresh().table[place(number)].to_vec();
                 data[at + bit / 8] |= 1 << (bit % 8);
                 assert_eq!(in_range(Fault::None, number, &data), known >> bit & 1 == 1);
             }

@@ -1,7 +1,8 @@
-//! 01's tables of blocks and orders, with 02's known flag bits, and 02's sets of P5. The second receiver, the second host and the generator
-//! share them. Written from the sheets, with no code or table of the library.
+//! 01's tables of blocks and orders, with 02's known flag bits and sets of P5, and the places of the blocks in P10's table of settings. The
+//! second receiver, the second host and the generator share them. Written from the sheets, with no code or table of the library.
 
 use crate::second::crc;
+use std::ops::Range;
 
 /// What a field takes, by its width in bytes.
 #[derive(Clone, Copy)]
@@ -111,8 +112,13 @@ impl Row {
         sum
     }
 
+    /// The bytes of its data section.
+    pub const fn length(&self) -> usize {
+        self.used() + self.reserved
+    }
+
     pub const fn total(&self) -> usize {
-        NAME + self.used() + self.reserved + CRC
+        NAME + self.length() + CRC
     }
 
     /// The set of this data section.
@@ -146,7 +152,7 @@ impl Row {
 
 /// The test of a data section, field after field.
 struct Test<'d> {
-    data: &'d [u8; DATA],
+    data: &'d [u8],
     /// The fields tested, and their bytes.
     fields: usize,
     bytes: usize,
@@ -156,7 +162,7 @@ struct Test<'d> {
 
 impl<'d> Test<'d> {
     #[inline(always)]
-    fn of(data: &'d [u8; DATA]) -> Test<'d> {
+    fn of(data: &'d [u8]) -> Test<'d> {
         Test { data, fields: 0, bytes: 0, bad: 0 }
     }
 
@@ -199,11 +205,24 @@ macro_rules! rows {
 
         /// The number of the first field of a set that does not take what this data section holds, 0 if there is none.
         #[inline(always)]
-        pub fn bad_field(number: usize, data: &[u8; DATA]) -> usize {
+        pub fn bad_field(number: usize, data: &[u8]) -> usize {
             match number {
-                $($number => Test::of(data)$(.field($field))*.bad,)*
+                $($number => Test::of(&data[..const { ROWS[$number - 1].used() }])$(.field($field))*.bad,)*
                 _ => 0,
             }
+        }
+
+        /// Whether every field of a table is in range and every reserved byte zero.
+        #[inline(always)]
+        pub fn is_sound(table: &[u8; TABLE]) -> bool {
+            $($({
+                const _GET: &[u8; NAME] = $get;
+                let (fields, reserved) = table[const { BEGINS[$number - 1] }..].split_at(const { ROWS[$number - 1].used() });
+                if bad_field($number, fields) != 0 || reserved[..$reserved] != [0; $reserved] {
+                    return false;
+                }
+            })?)*
+            true
         }
     };
 }
@@ -271,6 +290,26 @@ pub const FRAME: usize = {
 /// The longest data section.
 pub const DATA: usize = FRAME - NAME - CRC;
 
+/// Where each block's data section begins in the table of all settings: "the blocks in number order", one behind the other.
+const BEGINS: [usize; BLOCKS] = {
+    let (mut begins, mut i) = ([0; BLOCKS], 1);
+    while i < BLOCKS {
+        begins[i] = begins[i - 1] + ROWS[i - 1].length();
+        i += 1;
+    }
+    begins
+};
+
+/// The bytes of that table.
+pub const TABLE: usize = BEGINS[BLOCKS - 1] + ROWS[BLOCKS - 1].length();
+
+/// A block's place in it.
+#[inline(always)]
+pub fn place(block: usize) -> Range<usize> {
+    let begin = BEGINS[block - 1];
+    begin..begin + TOTAL[block - 1] - NAME - CRC
+}
+
 #[cfg(test)]
 mod tests {
     use super::*;
@@ -284,6 +323,14 @@ mod tests {
         assert!((1..=SETS).all(|number| set_named(row(number).set) == Some(number)));
         let got = |number| get_named(row(number).get().first_chunk().expect("four letters"));
         assert!((1..=SETS).all(|number| got(number) == (number <= BLOCKS).then_some(number)));
+    }
+
+    /// The places of the blocks, one behind the other from 0 to the table's end.
+    #[test]
+    fn places() {
+        let all: Vec<_> = (1..=BLOCKS).map(place).collect();
+        assert_eq!(all, [0..24, 24..52, 52..66, 66..86, 86..113, 113..132, 132..174]);
+        assert_eq!(TABLE, 174);
     }
 
     /// "On a fresh board every field is 0, or the smallest allowed value where 0 is not allowed".
@@ -322,10 +369,8 @@ mod tests {
         let mut random = Random(1);
         for round in 0..10_000 {
             let number = generator::any_set(&mut random);
-            let section = generator::data(&mut random, number, round % 4);
-            let mut data = [0; DATA];
-            data[..section.len()].copy_from_slice(&section);
-            assert_eq!(bad_field(number, &data), row(number).bad_fields(&section).first().copied().unwrap_or(0));
+            let data = generator::data(&mut random, number, round % 4);
+            assert_eq!(bad_field(number, &data), row(number).bad_fields(&data).first().copied().unwrap_or(0));
         }
     }
 }

@@ -5,22 +5,22 @@ use position::Position;
 use position::Steps;
 use state::Board;
 use state::Report;
+use state::Rest;
 ghost use mathlib.Core.Path.{_≡_};
 ghost use lib.ListN.{length};
-ghost use Rattle.rule.specs.Calls.{call};
-ghost use Rattle.unit.specs.Protocol.{protocol, freshState};
-ghost use Rattle.state.specs.State.{stateOf, boardOf};
+ghost use Rattle.unit.specs.Protocol.{freshState};
+ghost use Rattle.state.specs.State.{boardOf};
+ghost use Rattle.state.specs.Parts.{boardAt};
 ghost use Rattle.state.specs.Sound.{refusalOf};
-ghost use Rattle.state.specs.Returned.{Returned};
 ghost use Rattle.clock.specs.Report.{reported};
 ghost use Rattle.drive.specs.Report.{reported as located};
-ghost use Rattle.receiver.specs.Receive.{answer};
-ghost use Rattle.board.specs.Answer.{flat};
+ghost use Rattle.flash.specs.Flash.{outNumber, handed, takenBack};
+ghost use Rattle.board.specs.Answer.{leftIn, Answered};
 
 // What a call answers, flat: an order that carries no steps and microsteps has 0 and 0.
 #[repr(C)]
 pub struct Answer {
-    pub board: Board,
+    pub rest: Rest,
     pub taken: usize,
     pub written: usize,
     pub steps: Steps,
@@ -31,39 +31,41 @@ pub struct Answer {
 
 // A board that has taken nothing yet.
 #[no_mangle]
-pub extern "C" fn rivertosku_fresh_2() -> Board
+pub extern "C" fn rivertosku_fresh_3() -> Board
     ensures { λ r. ⌜ r ≡ boardOf freshState ⌝ }
 {
     state::fresh()
 }
 
-// One call: a piece of bytes that share a stamp, and room for the replies.
+// One call: a piece of bytes that share a stamp, and room for the replies. The board's arrays are lent, and changed where they stand.
 #[no_mangle]
-pub extern "C" fn rivertosku_receive_2(
-    board: Board,
+pub extern "C" fn rivertosku_receive_3(
+    table: &mut [u8; table::SIZE],
+    held: &mut [u8; sheet::FRAME],
+    rest: Rest,
     piece: &[u8],
     stamp: u32,
     reply: &mut [u8],
 ) -> Answer
-    ensures { λ r. ⌜ Returned (λ c. flat (answer board c)) (call protocol (refusalOf board) (stateOf board) stamp (length (now (reply .entry))) (now (piece .entry))) (now (reply .entry)) r (now (reply .exit)) ⌝ }
+    ensures { λ r. ⌜ Answered (boardAt (now (table .entry)) (now (held .entry)) rest) stamp (now (piece .entry)) (now (reply .entry)) (leftIn (now (table .exit)) (now (held .exit)) r) (now (reply .exit)) ⌝ }
 {
-    let call = receiver::receive(board, piece, stamp, reply);
-    let order = call.order;
-    let next = call.board;
+    let done = receiver::receive_lent(table, held, rest, piece, stamp, reply);
+    let order = done.order;
+    let next = done.rest;
     Answer {
-        number: call.number,
+        number: done.number,
         order: names::order_number(order),
         steps: names::order_steps(order),
         microsteps: names::order_microsteps(order),
-        taken: call.taken,
-        written: call.written,
-        board: next,
+        taken: done.taken,
+        written: done.written,
+        rest: next,
     }
 }
 
 // One report of the time: what is unfinished is dropped where its last byte is too long ago.
 #[no_mangle]
-pub extern "C" fn rivertosku_report_clock_2(board: Board, now: u32) -> Report
+pub extern "C" fn rivertosku_report_clock_3(board: Board, now: u32) -> Report
     ensures { λ r. ⌜ r ≡ reported board now ⌝ }
 {
     clock::report_time(board, now)
@@ -71,7 +73,7 @@ pub extern "C" fn rivertosku_report_clock_2(board: Board, now: u32) -> Report
 
 // One report of the position: it is the one reported, and nothing else changes.
 #[no_mangle]
-pub extern "C" fn rivertosku_report_position_2(board: Board, position: Position) -> Report
+pub extern "C" fn rivertosku_report_position_3(board: Board, position: Position) -> Report
     ensures { λ r. ⌜ r ≡ located board position ⌝ }
 {
     drive::report_position(board, position)
@@ -79,9 +81,25 @@ pub extern "C" fn rivertosku_report_position_2(board: Board, position: Position)
 
 // 0, or 3 where the board is not sound.
 #[no_mangle]
-pub extern "C" fn rivertosku_judge_2(board: Board) -> u8
+pub extern "C" fn rivertosku_judge_3(board: Board) -> u8
     ensures { λ r. ⌜ r ≡ refusalOf board ⌝ }
 {
     let verdict = state::judge(board);
     verdict.number
+}
+
+// For the flash writer: the table of a board's settings, at the front of out; a refusal writes nothing.
+#[no_mangle]
+pub extern "C" fn rivertosku_hand_out_3(board: Board, out: &mut [u8]) -> u8
+    ensures { λ r. ⌜ (r ≡ outNumber board (length (now (out .entry)))) × (now (out .exit) ≡ handed board (now (out .entry))) ⌝ }
+{
+    flash::hand_out(board, out)
+}
+
+// A board of a stored table; a fresh one where the table is refused.
+#[no_mangle]
+pub extern "C" fn rivertosku_take_back_3(bytes: &[u8]) -> Report
+    ensures { λ r. ⌜ r ≡ takenBack (now (bytes .entry)) ⌝ }
+{
+    flash::take_back(bytes)
 }

@@ -6,6 +6,7 @@ use Rattle.brk.proofs.Brk.decode.Reads as decode
 use Rattle.brk.proofs.Brk.numbers.Reads as numbers
 use Rattle.brk.proofs.Brk.encode.Reads as encode
 use Rattle.brk.proofs.Brk.first_bad.Reads as first-bad
+use Rattle.brk.proofs.Brk.is_sound.Reads as is-sound
 use Rattle.brk.proofs.Brk.fresh.Reads as fresh
 
 pub head-one : Leaves head.Post (λ κs r s. r)
@@ -22,6 +23,9 @@ encode-one κs a r r' s s' p q = p ∙ sym q
 
 pub first-bad-one : Leaves first-bad.Post (λ κs r s. r)
 first-bad-one κs a r r' s s' p q = p ∙ sym q
+
+pub is-sound-one : Leaves is-sound.Post (λ κs r s. r)
+is-sound-one κs a r r' s s' p q = p ∙ sym q
 
 pub fresh-one : Leaves fresh.Post (λ κs r s. r)
 fresh-one κs a r r' s s' p q = p ∙ sym q

@@ -4,6 +4,7 @@ ghost use mathlib.Core.Path.{_≡_};
 ghost use lib.Seq.{sets};
 ghost use Rattle.sheet.specs.Sheet.{brkRow, sbrk, gbrk};
 ghost use Rattle.sheet.specs.Rows.{headOf, numbersIn, dataOf, firstBad, fresh};
+ghost use Rattle.sheet.specs.Sections.{soundIn};
 ghost use Rattle.brk.specs.Brk.{brkOf, brkNumbers};
 
 #[repr(C)]
@@ -70,6 +71,14 @@ impl Brk {
     {
         let ns = self.numbers();
         ranges::first_false(&[true, true, true, true, ranges::has_only_bits(0x03, ns[4])])
+    }
+
+    // Whether a data section is sound: its fields in their ranges, its reserved bytes zero. It is asked at every call, so it reads only what it tests.
+    pub fn is_sound(part: &[u8]) -> bool
+        ensures { λ r. ⌜ r ≡ soundIn brkRow (now (part .entry)) ⌝ }
+    {
+        ranges::has_only_bits(3, wire::u8_at(part, 8) as u64)
+            & ((wire::u64_at(part, 9) == 0) & (wire::u16_at(part, 17) == 0))
     }
 
     pub fn fresh() -> Brk

@@ -6,7 +6,7 @@ use mathlib.Core.Bool.{Bool, true, false, cond}
 use mathlib.Core.List.{List, [], _∷_, _++_}
 use native.Mathlib.Omega.{arith}
 use lib.Dec.{eqb}
-use lib.ListN.{length, getD, take, drop, replicate}
+use lib.ListN.{length, take, drop, replicate}
 use lib.Seq.{take-append-seam, drop-append-seam}
 use borrow.Author.Tests.{eqb-true, eqb-false}
 use Rattle.wire.specs.Numbers.{leBytes}
@@ -229,17 +229,17 @@ module _ {b : Board} {run all : List (Item Event)} {x : Said Order Board} (h : O
   position-count = ap (λ (y : Memory). y .position .count) (dealt .1) ∙ count-last (tokensOf all) (b .memory)
 
   -- Demand 2: "After an accepted set, the get of that block returns the same fields, reserved bytes zero, until the next accepted set of that block":
-  -- in a run of bytes, the set u, at whose place its own name is heard, then the get g of its block with no set of the block so answered between
-  pub get-after-set : (before between after : List (Token Event)) (u g : List ℕ) (k : ℕ) → ((i : ℕ) → getD (bytes all) i 0 < 256)
+  -- in a run, the set u, at whose place its own name is heard, then the get g of its block with no set of the block so answered between
+  pub get-after-set : (before between after : List (Token Event)) (u g : List ℕ) (k : ℕ)
       → tokensOf all ≡ before ++ (whole u ∷ between ++ (whole g ∷ after))
       → kindAt u ≡ Set k → wordBehind (b .memory) before (x .reply) ≡ leBytes 4 (nameIn setTable k)
       → Without k (act (memoryBehind (b .memory) before) (whole u) .next) between
       → kindAt g ≡ Get k
       → let y = deal protocol (b .memory) (before ++ (whole u ∷ between)) in
       x .reply ≡ y .reply ++ (getReply k (canonical (rowAt k) (dataIn u)) ++ deal protocol (y .next) after .reply)
-  get-after-set before between after u g k low cut set word w get =
+  get-after-set before between after u g k cut set word w get =
       let e : Echoed (memoryBehind (b .memory) before) u k = record { kind = set; reply = sym (heard-is before (between ++ (whole g ∷ after)) u cut k set) ∙ word } in
-      ap (λ (y : Said Order (State Memory)). y .reply) said ∙ run-get-after-set (b .memory) (b .stamp) all before between after u g k low cut e w get
+      ap (λ (y : Said Order (State Memory)). y .reply) said ∙ run-get-after-set (b .memory) (b .stamp) all before between after u g k cut e w get
 
 -- "Flags stay set until a fresh board." (01): over any offered run, and so over one call and over one report
 pub flags-kept : {b : Board} {run : List (Item Event)} {x : Said Order Board} → Offered b run x → FlagsStay (b .memory) (x .next .memory)

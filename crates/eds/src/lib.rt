@@ -4,6 +4,7 @@ ghost use mathlib.Core.Path.{_≡_};
 ghost use lib.Seq.{sets};
 ghost use Rattle.sheet.specs.Sheet.{edsRow, seds, geds};
 ghost use Rattle.sheet.specs.Rows.{headOf, numbersIn, dataOf, firstBad, fresh};
+ghost use Rattle.sheet.specs.Sections.{soundIn};
 ghost use Rattle.eds.specs.Eds.{edsOf, edsNumbers};
 
 #[repr(C)]
@@ -82,6 +83,17 @@ impl Eds {
                 ranges::is_signed_within(255, ns[5]),
             ],
         )
+    }
+
+    // Whether a data section is sound: its fields in their ranges, its reserved bytes zero. It is asked at every call, so it reads only what it tests.
+    pub fn is_sound(part: &[u8]) -> bool
+        ensures { λ r. ⌜ r ≡ soundIn edsRow (now (part .entry)) ⌝ }
+    {
+        ranges::has_only_bits(15, wire::u8_at(part, 0) as u64)
+            & (ranges::has_only_bits(7, wire::u8_at(part, 1) as u64)
+                & (ranges::is_signed_within(255, wire::u16_at(part, 6) as u64)
+                    & (ranges::is_signed_within(255, wire::u16_at(part, 12) as u64)
+                        & ((wire::u32_at(part, 14) == 0) & (wire::u16_at(part, 18) == 0)))))
     }
 
     pub fn fresh() -> Eds

@@ -4,6 +4,7 @@ ghost use mathlib.Core.Path.{_≡_};
 ghost use lib.Seq.{sets};
 ghost use Rattle.sheet.specs.Sheet.{engRow, seng, geng};
 ghost use Rattle.sheet.specs.Rows.{headOf, numbersIn, dataOf, firstBad, fresh};
+ghost use Rattle.sheet.specs.Sections.{soundIn};
 ghost use Rattle.eng.specs.Eng.{engOf, engNumbers};
 
 #[repr(C)]
@@ -90,6 +91,18 @@ impl Eng {
                 ranges::is_within(1, 65535, ns[7]),
             ],
         )
+    }
+
+    // Whether a data section is sound: its fields in their ranges, its reserved bytes zero. It is asked at every call, so it reads only what it tests.
+    pub fn is_sound(part: &[u8]) -> bool
+        ensures { λ r. ⌜ r ≡ soundIn engRow (now (part .entry)) ⌝ }
+    {
+        ranges::is_within(15, 8000, wire::u16_at(part, 2) as u64)
+            & (ranges::is_within(1, 100000, wire::u32_at(part, 4) as u64)
+                & (ranges::has_only_bits(255, wire::u16_at(part, 9) as u64)
+                    & (ranges::is_within(1, 9, wire::u8_at(part, 13) as u64)
+                        & (ranges::is_within(1, 65535, wire::u16_at(part, 14) as u64)
+                            & ((wire::u64_at(part, 16) == 0) & (wire::u32_at(part, 24) == 0))))))
     }
 
     pub fn fresh() -> Eng

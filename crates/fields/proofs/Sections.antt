@@ -1,10 +1,10 @@
 -- Laws of the fields of a block and their data section, over the fields. Assumes nothing.
-use mathlib.Core.Path.{_≡_, sym, ap, _∙_}
+use mathlib.Core.Path.{_≡_, refl, sym, ap, _∙_}
 use mathlib.Core.List.{List, [], _∷_, _++_, append-nil}
 use Prim.Native.Nat.{ℕ, _-_, _<_}
 use lib.ListN.{length, getD}
 use Rattle.wire.proofs.Laid.{Room, laid-low}
-use Rattle.sheet.specs.Rows.{widths, total, numbersIn}
+use Rattle.sheet.specs.Rows.{widths, total, numbersIn, dataOf, firstBad}
 use Rattle.sheet.proofs.Laws.{data-length, read-back}
 use Rattle.mov.proofs.Codec.{mov-codec}
 use Rattle.eng.proofs.Codec.{eng-codec}
@@ -63,3 +63,27 @@ fields-typed block.Eds ns h = eds-codec .held ns h
 fields-typed block.Hom ns h = hom-codec .held ns h
 fields-typed block.Brk ns h = brk-codec .held ns h
 fields-typed block.Pid ns h = pid-codec .held ns h
+
+-- ---- fields made of numbers are their block's
+
+pub fields-own : (b : Block) (ns : List ℕ) → blockOf (fieldsOf b ns) ≡ b
+fields-own block.Mov ns = refl
+fields-own block.Eng ns = refl
+fields-own block.Pwr ns = refl
+fields-own block.Eds ns = refl
+fields-own block.Hom ns = refl
+fields-own block.Brk ns = refl
+fields-own block.Pid ns = refl
+
+-- where the numbers have room and pass their tests they come back, and so does their data section
+fields-numbers : (b : Block) (ns : List ℕ) → Room (widths (rowOf b)) ns → firstBad (rowOf b) ns ≡ 0 → fieldNumbers (fieldsOf b ns) ≡ ns
+fields-numbers block.Mov ns h z = mov-codec .back ns h z
+fields-numbers block.Eng ns h z = eng-codec .back ns h z
+fields-numbers block.Pwr ns h z = pwr-codec .back ns h z
+fields-numbers block.Eds ns h z = eds-codec .back ns h z
+fields-numbers block.Hom ns h z = hom-codec .back ns h z
+fields-numbers block.Brk ns h z = brk-codec .back ns h z
+fields-numbers block.Pid ns h z = pid-codec .back ns h z
+
+pub fields-section : (b : Block) (ns : List ℕ) → Room (widths (rowOf b)) ns → firstBad (rowOf b) ns ≡ 0 → sectionOf (fieldsOf b ns) ≡ dataOf (rowOf b) ns
+fields-section b ns h z = λ i. dataOf (rowOf (fields-own b ns i)) (fields-numbers b ns h z i)

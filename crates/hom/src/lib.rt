@@ -4,6 +4,7 @@ ghost use mathlib.Core.Path.{_≡_};
 ghost use lib.Seq.{sets};
 ghost use Rattle.sheet.specs.Sheet.{homRow, shom, ghom};
 ghost use Rattle.sheet.specs.Rows.{headOf, numbersIn, dataOf, firstBad, fresh};
+ghost use Rattle.sheet.specs.Sections.{soundIn};
 ghost use Rattle.hom.specs.Hom.{homOf, homNumbers};
 
 #[repr(C)]
@@ -86,6 +87,17 @@ impl Hom {
                 ranges::has_only_bits(0x1FF, ns[6]),
             ],
         )
+    }
+
+    // Whether a data section is sound: its fields in their ranges, its reserved bytes zero. It is asked at every call, so it reads only what it tests.
+    pub fn is_sound(part: &[u8]) -> bool
+        ensures { λ r. ⌜ r ≡ soundIn homRow (now (part .entry)) ⌝ }
+    {
+        ranges::is_within(0, 100000, wire::u32_at(part, 0) as u64)
+            & (ranges::is_within(0, 100000, wire::u32_at(part, 5) as u64)
+                & (ranges::is_signed_within(255, wire::u16_at(part, 14) as u64)
+                    & (ranges::has_only_bits(511, wire::u16_at(part, 16) as u64)
+                        & ((wire::u64_at(part, 18) == 0) & (wire::u8_at(part, 26) == 0)))))
     }
 
     pub fn fresh() -> Hom

@@ -22,15 +22,13 @@ use Rattle.names.specs.declared.Order.the-variants.{Nothing}
 use Rattle.names.specs.declared.Kind.{Kind}
 use Rattle.names.proofs.Lengths.{span-some, span-most}
 use Rattle.names.proofs.Need.{need-law, kind-short, kind-fits, kind-front}
-use Rattle.unit.specs.Unit.{act, does, orderOf, Judges}
+use Rattle.unit.specs.Unit.{act, does, orderOf, Outcome, Judges}
 use Rattle.unit.specs.Protocol.{protocol}
 use Rattle.unit.specs.declared.Memory.{Memory}
-use Rattle.unit.specs.declared.Judged.{Judged}
 use Rattle.unit.proofs.Replies.{act-kind, does-length, act-order}
-use Rattle.state.specs.State.{boardOf}
 use Rattle.state.specs.Returned.{Returned}
 use Rattle.state.specs.declared.Call.{Call}
-use Rattle.line.specs.Line.{ran}
+use Rattle.line.specs.Line.{ran, holding}
 use Rattle.line.proofs.Replies.{Written, written-at, lent-back}
 
 -- THE INVARIANT. The whole call is c, at the stamp t: i bytes of the line are taken, all in whole units, w bytes are written, m is the memory that
@@ -57,10 +55,6 @@ module _ {line : List ℕ} {i n : ℕ} {kind : Kind} (it : Looked line i n kind)
 
   pub most : n ≤ longestFrame
   most = omega (arith, it .spans, span-most kind)
-
--- the code's answer that keeps a memory and an order, with the bytes u held at the stamp t
-abbrev pub holding : Memory → Order → ℕ → List ℕ → ℕ → ℕ → Call
-holding m o t u taken written = record { number = 0; taken = taken; written = written; order = o; board = boardOf (stateAt m u t) }
 
 -- a call that is over, as the code answers it
 ran-over : (c : Called Order Memory) (k w t : ℕ) (out before after u : List ℕ) (os : List Order) (m : Memory) (o : Order) (r : Call)
@@ -142,7 +136,7 @@ module _ (c : Called Order Memory) (t : ℕ) (line reply₀ reply : List ℕ) (m
             (inv .same ∙ unit-full protocol need-law i (take w reply) m t (length reply₀ - w) d n is there (omega (arith, inv .long, due-is))) (f ∙ rw (l, k))
 
         -- it is answered: its reply stands in the lent rest ys, and `next` has what it said
-        module _ (room : due ≤ length reply - w) (next : Judged) (ys : List ℕ) (j : Judges (does m (take (i + n - i) d) kind) (midOf w (length reply - w) reply) next ys) where
+        module _ (room : due ≤ length reply - w) (next : Outcome) (ys : List ℕ) (j : Judges (does m (take (i + n - i) d) kind) (midOf w (length reply - w) reply) next ys) where
           judged : Judges done (midOf w (length reply - w) reply) next ys
           judged = let k : i + n - i ≡ n = omega arith in rw done-is (rw k at j)
 
@@ -162,11 +156,11 @@ module _ (c : Called Order Memory) (t : ℕ) (line reply₀ reply : List ℕ) (m
           past-is = wrote .past ∙ rw (← drop-drop out w reply, inv .rest, drop-drop)
 
           memory-is : next .memory ≡ done .next
-          memory-is = ap (λ (y : Judged). y .memory) (judged .result)
+          memory-is = ap (λ (y : Outcome). y .memory) (judged .result)
 
           -- the orders that it gave
           orders-are : given (next .order) ≡ done .orders
-          orders-are = ap (λ (y : Judged). given (y .order)) (judged .result) ∙ act-order m u
+          orders-are = ap (λ (y : Outcome). given (y .order)) (judged .result) ∙ act-order m u
 
           pub back-long : length back ≡ length reply₀
           back-long = wrote .long ∙ inv .long

@@ -6,7 +6,8 @@ use Prim.Native.Nat.{ℕ, zero, suc, _-_}
 use native.Mathlib.Omega.{arith}
 use lib.ListN.{length, getD, take, drop, replicate, length-replicate}
 use Rattle.sheet.specs.Lengths.{longestFrame}
-use Rattle.settings.specs.Settings.{freshSettings}
+use Rattle.table.specs.declared.Table.{Table}
+use Rattle.table.specs.Table.{freshTable}
 use Rattle.rule.specs.Run.{Item, byte, event, lastStamp}
 use Rattle.rule.specs.Framing.{Token, whole, lost, seen}
 use Rattle.rule.specs.Rule.{Said, then, State, with-line, stateAt, Protocol, deal}
@@ -33,12 +34,12 @@ use Rattle.request.specs.Request.{frameOf}
 use Rattle.request.specs.declared.Request.{Request}
 use Rattle.answer.specs.declared.Reading.{Reading}
 use Rattle.link.specs.Book.{Book, bookOf, noted, notedAll, answersTo, ordersOf, repliesTo}
-use Rattle.link.specs.Types.{TypedAll, TypedBoard}
-use Rattle.link.specs.Asking.{Sendable, ReadOff, AnswerForAnswer}
+use Rattle.link.specs.Types.{TypedAll, TypedBoard, Kept}
+use Rattle.link.specs.Asking.{Ready, Sendable, ReadOff, AnswerForAnswer}
 use Rattle.link.specs.Sending.{Sent, onlyBytes, runOf, requestsOf}
 use Rattle.link.proofs.Requests.{frame-least, frame-most, frame-whole, acts}
 use Rattle.link.proofs.Types.{fresh-typed}
-use Rattle.link.proofs.Sessions.{good-is, length-is, frame-is, bound, replies-read, write-good}
+use Rattle.link.proofs.Sessions.{good-is, length-is, frame-is, bound, kept, replies-read, fresh-ready, write-good}
 
 -- ---- the units of a run
 
@@ -85,18 +86,18 @@ frames (x ∷ xs) t =
 
 -- ---- what the memory makes of them
 
--- what is said of requests one after the other, from this book and these notes, and what they leave
-record Answered (book : Book) (notes : Notes) (qs : List Request) (w : Said Order Memory) : Type 0 where
-  replies : w .reply ≡ repliesTo book qs
+-- what is said of requests one after the other, from this table and these notes, and what they leave
+record Answered (t : Table) (notes : Notes) (qs : List Request) (w : Said Order Memory) : Type 0 where
+  replies : Kept t → w .reply ≡ repliesTo (bookOf t) qs
   orders : w .orders ≡ ordersOf qs
-  blocks : (c : Block) → bookOf (w .next .settings) c ≡ notedAll book qs c
+  blocks : (c : Block) → bookOf (w .next .settings) c ≡ notedAll (bookOf t) qs c
   kept : w .next .notes ≡ notes
 
 -- wherever the position stands: what comes between the frames says nothing and alters neither settings nor notes
 units-answered : (ks : List (Token Event)) (xs : List Sent) (m : Memory) → deal framer tt ks .orders ≡ map frameOf (requestsOf xs)
-    → Answered (bookOf (m .settings)) (m .notes) (requestsOf xs) (deal protocol m ks)
+    → Answered (m .settings) (m .notes) (requestsOf xs) (deal protocol m ks)
 unfolding deal act
-units-answered [] [] m e = record { replies = refl; orders = refl; blocks = λ c. refl; kept = refl }
+units-answered [] [] m e = record { replies = λ h. refl; orders = refl; blocks = λ c. refl; kept = refl }
 units-answered [] (x ∷ xs) m e = absurd (omega (arith, ap length e))
 units-answered (lost u ∷ ks) xs m e = units-answered ks xs m e
 units-answered (seen (clock now) ∷ ks) xs m e = units-answered ks xs m e
@@ -110,9 +111,9 @@ units-answered (whole u ∷ ks) (x ∷ xs) m e =
     let n = act m (whole (frameOf q)) .next in
     let ih = units-answered ks xs n (ap (drop 1) e) in
     let next : bookOf (n .settings) ≡ noted (bookOf (m .settings)) q = λ i c. done .blocks c i in
-    subst (λ (v : List ℕ). Answered (bookOf (m .settings)) (m .notes) (q ∷ qs) (deal protocol m (whole v ∷ ks))) (sym is)
+    subst (λ (v : List ℕ). Answered (m .settings) (m .notes) (q ∷ qs) (deal protocol m (whole v ∷ ks))) (sym is)
     (record {
-      replies = λ i. done .reply i ++ (ih .replies ∙ ap (λ (k : Book). repliesTo k qs) next) i;
+      replies = λ h i. done .reply h i ++ (ih .replies (done .table h) ∙ ap (λ (k : Book). repliesTo k qs) next) i;
       orders = λ i. done .orders i ++ ih .orders i;
       blocks = λ c. ih .blocks c ∙ ap (λ (k : Book). notedAll k qs c) next;
       kept = ih .kept ∙ done .notes;
@@ -141,7 +142,7 @@ module _ {b : Board} {m : Memory} {t : ℕ} (is : b ≡ boardOf (stateAt m [] t)
       subst (Frames qs) (ap (steps framer (stateAt tt [] t)) (sym sent) ∙ sym (positions-aside run (stateAt tt [] t)) ∙ steps-feeds framer (withoutClock run) (stateAt tt [] t))
       (frames xs t)
 
-  done : Answered (bookOf (m .settings)) (m .notes) qs (deal protocol m (f .tokens))
+  done : Answered (m .settings) (m .notes) qs (deal protocol m (f .tokens))
   done = units-answered (f .tokens) xs m (framed .units)
 
   says : x ≡ onBoard (with-line (f .line) (deal protocol m (f .tokens)))
@@ -167,26 +168,27 @@ module _ {b : Board} {m : Memory} {t : ℕ} (is : b ≡ boardOf (stateAt m [] t)
   cut-idle = ap (λ (y : Said Order Board). y .next .count) says ∙ ap length (framed .idle)
 
   -- the joined replies are read back, answer for answer, to the last byte
-  pub cut-read : TypedBoard b → {rs : List Reading} {rest : List ℕ} → ReadOff (x .reply) rs rest → length rs ≡ length qs
+  pub cut-read : Ready b → TypedBoard b → {rs : List Reading} {rest : List ℕ} → ReadOff (x .reply) rs rest → length rs ≡ length qs
       → AnswerForAnswer rs (answersTo book qs) × (rest ≡ [])
-  cut-read typed {rs} {rest} off e =
+  cut-read can typed {rs} {rest} off e =
+      let holds : Kept (m .settings) = subst (λ (y : Board). Kept (y .memory .settings)) is (kept b can typed) in
       let same : x .reply ≡ repliesTo book qs =
-      ap (λ (y : Said Order Board). y .reply) says ∙ done .replies ∙ ap (λ (k : Book). repliesTo k qs) same-book in
+      ap (λ (y : Said Order Board). y .reply) says ∙ done .replies holds ∙ ap (λ (k : Book). repliesTo k qs) same-book in
       replies-read book qs (bound b typed) (sent-typed xs) (subst (λ (l : List ℕ). ReadOff l rs rest) same off) e
 
 -- ---- FROM A FRESH BOARD, as `state::fresh` promises it: nothing is asked of the board
 
 module _ (κs : _) (a : _) (b : Board) (s : _) (is : fresh.Post κs a b s) (xs : List Sent)
     {run : List (Item Event)} (sent : onlyBytes run ≡ runOf xs) (timely : NoneOverdue freshState run) {x : Said Order Board} (offered : Offered b run x) where
-  pub fresh-cut-blocks : (c : Block) → bookOf (x .next .memory .settings) c ≡ notedAll (bookOf freshSettings) (requestsOf xs) c
+  pub fresh-cut-blocks : (c : Block) → bookOf (x .next .memory .settings) c ≡ notedAll (bookOf freshTable) (requestsOf xs) c
   fresh-cut-blocks c =
       cut-blocks is xs sent timely offered c ∙ ap (λ (y : Board). notedAll (bookOf (y .memory .settings)) (requestsOf xs) c) is
 
   pub fresh-cut-read : {rs : List Reading} {rest : List ℕ} → ReadOff (x .reply) rs rest → length rs ≡ length (requestsOf xs)
-      → AnswerForAnswer rs (answersTo (bookOf freshSettings) (requestsOf xs)) × (rest ≡ [])
+      → AnswerForAnswer rs (answersTo (bookOf freshTable) (requestsOf xs)) × (rest ≡ [])
   fresh-cut-read {rs} {rest} off e =
       subst (λ (y : Board). AnswerForAnswer rs (answersTo (bookOf (y .memory .settings)) (requestsOf xs)) × (rest ≡ [])) is
-      (cut-read is xs sent timely offered (fresh-typed κs a b s is) off e)
+      (cut-read is xs sent timely offered (fresh-ready κs a b s is) (fresh-typed κs a b s is) off e)
 
 -- ---- every sequence can be sent, all its bytes at any one stamp
 

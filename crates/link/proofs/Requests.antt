@@ -1,6 +1,6 @@
 -- What the board does with the frame of a request, and what the reader makes of its reply: over the definitions.
 -- In quotation marks: sheet 02, P1. Assumes nothing.
-use mathlib.Core.Path.{_≡_, refl, sym, ap, _∙_}
+use mathlib.Core.Path.{_≡_, refl, sym, ap, subst, _∙_}
 use mathlib.Core.Bool.{Bool, true, false, cond}
 use mathlib.Core.List.{List, [], _++_, append-nil}
 use Prim.Native.Nat.{ℕ, _^_, _≤_, _<_}
@@ -10,17 +10,23 @@ use lib.ListN.{length, getD}
 use borrow.Author.Tests.{eqb-true}
 use Rattle.wire.specs.Numbers.{leAt, leBytes}
 use Rattle.wire.proofs.Numbers.{length-leBytes, leAt-leBytes}
+use Rattle.wire.proofs.Laid.{Room}
 use Rattle.frame.specs.Frame.{framed, dataIn, intact}
 use Rattle.frame.proofs.Frames.{frame-length, frame-name, frame-data, frame-intact}
 use Rattle.keyed.specs.Keyed.{valueIn}
 use Rattle.sheet.specs.Lengths.{longestFrame}
-use Rattle.sheet.specs.Sheet.{Row, setTable}
-use Rattle.sheet.specs.Rows.{total, numbersIn, firstBad}
-use Rattle.settings.specs.declared.Settings.{Settings}
-use Rattle.settings.specs.Settings.{storeAt, dataAt, putAt, badAt}
-use Rattle.settings.proofs.Keep.{bad-put}
+use Rattle.sheet.specs.Sheet.{Row, sheet, setTable, getTable}
+use Rattle.sheet.specs.Rows.{rowAt, widths, total, numbersIn, dataOf, firstBad}
+use Rattle.sheet.specs.Sections.{badIn as badPart}
+use Rattle.sheet.proofs.Laws.{numbers-fit}
+use Rattle.sheet.proofs.Sections.{sound-fields}
+use Rattle.table.specs.declared.Table.{Table}
+use Rattle.table.specs.Table.{dataAt, numbersAt, putAt, Good}
+use Rattle.table.proofs.Laws.{put-low}
+use Rattle.table.proofs.Keep.{data-low, data-sent, numbers-put, good-put}
 use Rattle.rule.specs.Framing.{whole}
 use Rattle.rule.specs.Rule.{Said}
+use Rattle.rule.specs.Facts.{OfBytes}
 use Rattle.names.specs.Names.{nameIn, kindOf, nameOf, kindAt, span, need}
 use Rattle.names.specs.declared.Order.{Order}
 use Rattle.names.specs.declared.Kind.{Kind}
@@ -34,13 +40,6 @@ use Rattle.unit.proofs.Replies.{act-kind}
 use Rattle.unit.specs.Kept.{Accepts, getReply}
 use Rattle.unit.proofs.Kept.{accepted}
 use Rattle.unit.proofs.Runs.{got}
-use Rattle.mov.specs.Mov.{movOf}
-use Rattle.eng.specs.Eng.{engOf}
-use Rattle.pwr.specs.Pwr.{pwrOf}
-use Rattle.eds.specs.Eds.{edsOf}
-use Rattle.hom.specs.Hom.{homOf}
-use Rattle.brk.specs.Brk.{brkOf}
-use Rattle.pid.specs.Pid.{pidOf}
 use Rattle.host.specs.Names.{rowOf, setOf, getOf, orderName, blockNumber}
 use Rattle.host.specs.declared.Block.{Block}
 use Rattle.host.specs.declared.Block.the-variants.{Mov, Eng, Pwr, Eds, Hom, Brk, Pid}
@@ -48,10 +47,9 @@ use Rattle.host.specs.declared.Order.{Order as Asked}
 use Rattle.host.specs.declared.Order.the-variants.{Stop, Sstp, Pwof, Left, Rigt, Home, Loft}
 use Rattle.host.proofs.Numbered.{number-one, row-numbered, set-plain, get-plain, order-plain}
 use Rattle.host.proofs.Totals.{total-most, total-least}
-use Rattle.fields.specs.Fields.{blockOf, Typed, fieldNumbers, fieldsOf, sectionOf, firstBadOf}
+use Rattle.fields.specs.Fields.{blockOf, Typed, fieldsOf, sectionOf, fieldsIn, firstBadOf}
 use Rattle.fields.specs.declared.Fields.{Fields}
-use Rattle.fields.specs.declared.Fields.the-variants as fields
-use Rattle.fields.proofs.Sections.{section-length, section-low, fields-back, numbers-back}
+use Rattle.fields.proofs.Sections.{section-length, section-low, numbers-back, section-back, fields-typed, fields-own, fields-section}
 use Rattle.request.specs.Request.{setFrame, frameOf, badIn}
 use Rattle.request.specs.declared.Request.{Request}
 use Rattle.request.specs.declared.Request.the-variants.{Get, Set, Give}
@@ -60,7 +58,7 @@ use Rattle.answer.specs.Answer.{answerOf, firstAnswer}
 use Rattle.answer.specs.declared.Answer.the-variants.{Data}
 use Rattle.answer.proofs.Answers.{set-echoed, order-echoed, data-read}
 use Rattle.link.specs.Book.{Book, bookOf, noted, answerTo, givenBy, ordersBy, replyTo}
-use Rattle.link.specs.Types.{TypedIn, TypedBook}
+use Rattle.link.specs.Types.{TypedIn, TypedBook, Kept}
 
 -- ---- the board knows each name: later commands change none of these
 
@@ -93,6 +91,26 @@ kind-order Left = refl
 kind-order Rigt = refl
 kind-order Home = refl
 kind-order Loft = refl
+
+set-name : (b : Block) → nameIn setTable (blockNumber b) ≡ setOf b .name
+unfolding valueIn
+set-name Mov = refl
+set-name Eng = refl
+set-name Pwr = refl
+set-name Eds = refl
+set-name Hom = refl
+set-name Brk = refl
+set-name Pid = refl
+
+get-name : (b : Block) → nameIn getTable (blockNumber b) ≡ getOf b .name
+unfolding valueIn
+get-name Mov = refl
+get-name Eng = refl
+get-name Pwr = refl
+get-name Eds = refl
+get-name Hom = refl
+get-name Brk = refl
+get-name Pid = refl
 
 -- ---- frames are whole units
 
@@ -145,14 +163,10 @@ cond-out : {X Y : Type 0} (f : X → Y) (b : Bool) (x y : X) → f (cond b x y) 
 cond-out f true x y = refl
 cond-out f false x y = refl
 
-pub store-fields : (s : Settings) (k : ℕ) (ns : List ℕ) (c : Block) → bookOf (storeAt s k ns) c ≡ cond (eqb k (blockNumber c)) (fieldsOf c ns) (bookOf s c)
-store-fields s k ns Mov = cond-out fields.Mov (eqb k 1) (movOf ns) (s .mov)
-store-fields s k ns Eng = cond-out fields.Eng (eqb k 2) (engOf ns) (s .eng)
-store-fields s k ns Pwr = cond-out fields.Pwr (eqb k 3) (pwrOf ns) (s .pwr)
-store-fields s k ns Eds = cond-out fields.Eds (eqb k 4) (edsOf ns) (s .eds)
-store-fields s k ns Hom = cond-out fields.Hom (eqb k 5) (homOf ns) (s .hom)
-store-fields s k ns Brk = cond-out fields.Brk (eqb k 6) (brkOf ns) (s .brk)
-store-fields s k ns Pid = cond-out fields.Pid (eqb k 7) (pidOf ns) (s .pid)
+put-fields : (t : Table) (k : ℕ) (d : List ℕ) (c : Block) → bookOf (putAt t k d) c ≡ cond (eqb k (blockNumber c)) (fieldsIn c d) (bookOf t c)
+put-fields t k d c =
+    ap (fieldsOf c) (numbers-put t k d (blockNumber c)) ∙ cond-out (fieldsOf c) (eqb k (blockNumber c)) _ _
+    ∙ ap (λ (r : Row). cond (eqb k (blockNumber c)) (fieldsOf c (numbersIn r d)) (bookOf t c)) (row-numbered c)
 
 module _ (m : Memory) (f : Fields) (typed : Typed f) where
   abbrev b : Block
@@ -164,31 +178,32 @@ module _ (m : Memory) (f : Fields) (typed : Typed f) where
   section-is : dataIn (setFrame f) ≡ sectionOf f
   section-is = frame-data (setOf b .name) (sectionOf f)
 
-  put-is : putAt (m .settings) k (dataIn (setFrame f)) ≡ storeAt (m .settings) k (fieldNumbers f)
-  put-is =
-      ap (storeAt (m .settings) k)
-      (ap (λ (r : Row). numbersIn r (dataIn (setFrame f))) (row-numbered b) ∙ ap (numbersIn (rowOf b)) section-is ∙ numbers-back f typed)
-
   stored-fields : (c : Block) → bookOf (putAt (m .settings) k (dataIn (setFrame f))) c ≡ noted (bookOf (m .settings)) (Set f) c
-  stored-fields c = ap (λ (s : Settings). bookOf s c) put-is ∙ store-fields (m .settings) k (fieldNumbers f) c ∙ by (eqb k (blockNumber c)) refl
+  stored-fields c = put-fields (m .settings) k (dataIn (setFrame f)) c ∙ by (eqb k (blockNumber c)) refl
     where
-      by : (y : Bool) → eqb k (blockNumber c) ≡ y → cond y (fieldsOf c (fieldNumbers f)) (bookOf (m .settings) c) ≡ cond y f (bookOf (m .settings) c)
-      by true e = ap (λ (x : Block). fieldsOf x (fieldNumbers f)) (sym (number-one b c (eqb-true k (blockNumber c) e))) ∙ fields-back f typed
+      by : (y : Bool) → eqb k (blockNumber c) ≡ y → cond y (fieldsIn c (dataIn (setFrame f))) (bookOf (m .settings) c) ≡ cond y f (bookOf (m .settings) c)
+      by true e = ap (fieldsIn c) section-is ∙ ap (λ (x : Block). fieldsIn x (sectionOf f)) (sym (number-one b c (eqb-true k (blockNumber c) e))) ∙ section-back f typed
       by false e = refl
 
   -- the board's test of the frame is the host's test of the fields
-  judged : badAt (putAt (m .settings) k (dataIn (setFrame f))) k ≡ firstBadOf f
+  judged : badPart (rowAt k) (dataIn (setFrame f)) ≡ firstBadOf f
+  unfolding badPart
   judged =
-      ap (λ (d : List ℕ). badAt (putAt (m .settings) k d) k) section-is
-      ∙ bad-put (m .settings) k (sectionOf f) (section-low f)
-      ∙ ap (λ (r : Row). firstBad r (numbersIn r (sectionOf f))) (row-numbered b)
-      ∙ ap (firstBad (rowOf b)) (numbers-back f typed)
+      ap (badPart (rowAt k)) section-is ∙ ap (λ (r : Row). badPart r (sectionOf f)) (row-numbered b) ∙ ap (firstBad (rowOf b)) (numbers-back f typed)
 
   intact-frame : intact (setFrame f) ≡ true
   intact-frame = frame-intact (setOf b .name) (sectionOf f) (section-low f)
 
   set-accepted : firstBadOf f ≡ 0 → Accepts m (setFrame f) k
   set-accepted good = record { kind = frame-kind (Set f); crc = intact-frame; good = judged ∙ good }
+
+  -- and the table is still a sound board's
+  set-kept : firstBadOf f ≡ 0 → Kept (m .settings) → Kept (putAt (m .settings) k (dataIn (setFrame f)))
+  set-kept good h =
+      record {
+        good = good-put (m .settings) k (dataIn (setFrame f)) (judged ∙ good) (h .good);
+        bytes = put-low sheet (m .settings .bytes) k (dataIn (setFrame f)) (h .bytes) (subst OfBytes (sym section-is) (section-low f));
+      }
 
   -- "refuses what the board would refuse", and nothing else: a set that the writer answers 3 to, the board would answer errv to, at the same field
   pub would-refuse : (firstBadOf f ≡ 0 → ⊥) → act m (whole (setFrame f)) ≡ outOfRange m k (firstBadOf f)
@@ -198,57 +213,67 @@ module _ (m : Memory) (f : Fields) (typed : Typed f) where
       ∙ checked-refused m (setFrame f) k _ _ intact-frame (λ z. bad (sym judged ∙ z))
       ∙ ap (outOfRange m k) judged
 
+-- ---- what a get sends
+
+module _ (t : Table) (b : Block) where
+  abbrev number : ℕ
+  number = blockNumber b
+
+  abbrev ns : List ℕ
+  ns = numbersAt t number
+
+  -- the row that the board finds by the block's number is the block's
+  by-row : (P : Row → Type 0) → P (rowAt number) → P (rowOf b)
+  by-row P h = subst P (row-numbered b) h
+
+  numbers-room : OfBytes (t .bytes) → Room (widths (rowOf b)) ns
+  numbers-room low = by-row (λ (r : Row). Room (widths r) ns) (numbers-fit (rowAt number) (dataAt t number) (data-low t low number))
+
+  numbers-good : Good t → firstBad (rowOf b) ns ≡ 0
+  unfolding badPart
+  numbers-good good = by-row (λ (r : Row). firstBad r ns ≡ 0) (sound-fields (rowAt number) (dataAt t number) (good .1 number))
+
+  get-sends : Kept t → getReply number (dataAt t number) ≡ framed (getOf b .name) (sectionOf (bookOf t b))
+  get-sends h =
+      let sent = by-row (λ (r : Row). dataOf r ns ≡ dataAt t number) (data-sent t (h .good) (h .bytes) number) in
+      let section = fields-section b ns (numbers-room (h .bytes)) (numbers-good (h .good)) ∙ sent in
+      λ i. framed (get-name b i) (sym section i)
+
 -- ---- WHAT THE BOARD DOES WITH A REQUEST'S FRAME
 
--- it replies and orders as the book says; flags and last refused field stay, and each block is then as the book has it
+-- it replies, where its table is a sound board's, and orders as the book says; flags and last refused field stay, each block is then as the book has
+-- it, and the table is still a sound board's
 pub record Acts (m : Memory) (q : Request) : Type 0 where
-  pub reply : act m (whole (frameOf q)) .reply ≡ replyTo (bookOf (m .settings)) q
+  pub reply : Kept (m .settings) → act m (whole (frameOf q)) .reply ≡ replyTo (bookOf (m .settings)) q
   pub orders : act m (whole (frameOf q)) .orders ≡ ordersBy q
   pub notes : act m (whole (frameOf q)) .next .notes ≡ m .notes
   pub blocks : (b : Block) → bookOf (act m (whole (frameOf q)) .next .settings) b ≡ noted (bookOf (m .settings)) q b
+  pub table : Kept (m .settings) → Kept (act m (whole (frameOf q)) .next .settings)
 
 -- it does as a says
-acts-as : (m : Memory) (q : Request) (a : Said Order Memory) → act m (whole (frameOf q)) ≡ a → a .reply ≡ replyTo (bookOf (m .settings)) q
-    → a .orders ≡ ordersBy q → a .next .notes ≡ m .notes → ((b : Block) → bookOf (a .next .settings) b ≡ noted (bookOf (m .settings)) q b) → Acts m q
-acts-as m q a e r o n f =
+acts-as : (m : Memory) (q : Request) (a : Said Order Memory) → act m (whole (frameOf q)) ≡ a → (Kept (m .settings) → a .reply ≡ replyTo (bookOf (m .settings)) q)
+    → a .orders ≡ ordersBy q → a .next .notes ≡ m .notes → ((b : Block) → bookOf (a .next .settings) b ≡ noted (bookOf (m .settings)) q b)
+    → (Kept (m .settings) → Kept (a .next .settings)) → Acts m q
+acts-as m q a e r o n f k =
     record {
-      reply = ap (λ (x : Said Order Memory). x .reply) e ∙ r;
+      reply = λ h. ap (λ (x : Said Order Memory). x .reply) e ∙ r h;
       orders = ap (λ (x : Said Order Memory). x .orders) e ∙ o;
       notes = ap (λ (x : Said Order Memory). x .next .notes) e ∙ n;
       blocks = λ b. ap (λ (x : Said Order Memory). bookOf (x .next .settings) b) e ∙ f b;
+      table = λ h. subst (λ (x : Said Order Memory). Kept (x .next .settings)) (sym e) (k h);
     }
-
-get-sends : (s : Settings) (b : Block) → getReply (blockNumber b) (dataAt s (blockNumber b)) ≡ framed (getOf b .name) (sectionOf (bookOf s b))
-unfolding valueIn
-get-sends s Mov = refl
-get-sends s Eng = refl
-get-sends s Pwr = refl
-get-sends s Eds = refl
-get-sends s Hom = refl
-get-sends s Brk = refl
-get-sends s Pid = refl
-
-set-name : (b : Block) → nameIn setTable (blockNumber b) ≡ setOf b .name
-unfolding valueIn
-set-name Mov = refl
-set-name Eng = refl
-set-name Pwr = refl
-set-name Eds = refl
-set-name Hom = refl
-set-name Brk = refl
-set-name Pid = refl
 
 pub acts : (m : Memory) (q : Request) → TypedIn q → badIn q ≡ 0 → Acts m q
 unfolding does
 acts m (Get b) typed good =
     acts-as m (Get b) _ (got m (frameOf (Get b)) (blockNumber b) (frame-kind (Get b)))
-    (get-sends (m .settings) b) refl refl (λ c. refl)
+    (get-sends (m .settings) b) refl refl (λ c. refl) (λ h. h)
 acts m (Set f) typed good =
     acts-as m (Set f) _ (accepted m (setFrame f) (blockNumber (blockOf f)) (set-accepted m f typed good))
-    (ap (leBytes 4) (set-name (blockOf f))) refl refl (stored-fields m f typed)
+    (λ h. ap (leBytes 4) (set-name (blockOf f))) refl refl (stored-fields m f typed) (set-kept m f typed good)
 acts m (Give o) typed good =
     acts-as m (Give o) _ (act-kind m (frameOf (Give o)) (kind.Gives (givenBy o)) (frame-kind (Give o)))
-    (ap (leBytes 4) (name-read (orderName o) (order-plain o .fits))) refl refl (λ c. refl)
+    (λ h. ap (leBytes 4) (name-read (orderName o) (order-plain o .fits))) refl refl (λ c. refl) (λ h. h)
 
 -- ---- WHAT THE READER MAKES OF THE REPLY
 
@@ -257,14 +282,9 @@ pub record Bound (book : Book) : Type 0 where
   pub own : (b : Block) → blockOf (book b) ≡ b
   pub typed : TypedBook book
 
-pub settings-own : (s : Settings) (b : Block) → blockOf (bookOf s b) ≡ b
-settings-own s Mov = refl
-settings-own s Eng = refl
-settings-own s Pwr = refl
-settings-own s Eds = refl
-settings-own s Hom = refl
-settings-own s Brk = refl
-settings-own s Pid = refl
+pub table-bound : (t : Table) → OfBytes (t .bytes) → Bound (bookOf t)
+table-bound t low =
+    record { own = λ c. fields-own c (numbersAt t (blockNumber c)); typed = λ c. fields-typed c (numbersAt t (blockNumber c)) (numbers-room t c low) }
 
 pub noted-bound : (book : Book) (q : Request) → Bound book → TypedIn q → Bound (noted book q)
 noted-bound book (Get b) h typed = h

@@ -9,11 +9,13 @@ use lib.Seq.{sets, drop-append-seam}
 use borrow.Author.Tests.{eq-eqb, ne-eqb}
 use Rattle.wire.proofs.Stores.{front-stored}
 use Rattle.sheet.specs.Lengths.{longestFrame}
-use Rattle.settings.specs.Settings.{freshSettings}
+use Rattle.table.specs.Table.{freshTable}
 use Rattle.rule.specs.Facts.{OfBytes}
 use Rattle.names.specs.Names.{given}
 use Rattle.names.specs.declared.Order.{Order}
 use Rattle.unit.specs.Protocol.{protocol}
+use Rattle.unit.proofs.Sound.{sound-memory}
+use Rattle.state.specs.State.{stateOf}
 use Rattle.state.specs.declared.Board.{Board}
 use Rattle.state.specs.declared.Call.{Call}
 use Rattle.state.proofs.Boards.{fresh-sound}
@@ -35,10 +37,10 @@ use Rattle.answer.specs.Answer.{FirstRead, readAs, answerOf, firstAnswer}
 use Rattle.answer.specs.declared.Reading.{Reading}
 use Rattle.answer.proofs.Ways.{first-some}
 use Rattle.link.specs.Book.{Book, bookOf, noted, notedAll, answerTo, answersTo, ordersBy, ordersOf, replyTo, repliesTo}
-use Rattle.link.specs.Types.{TypedIn, TypedAll, TypedBook, TypedBoard}
+use Rattle.link.specs.Types.{TypedIn, TypedAll, TypedBoard, Kept}
 use Rattle.link.specs.Asking.{Writing, Reads, allowed, Ready, Asked, none, ask, NoRefusal, Sendable, ReadOff, one, AnswerForAnswer}
 use Rattle.link.proofs.Alone.{Taken, taken-alone}
-use Rattle.link.proofs.Requests.{frame-least, frame-most, frame-whole, Acts, acts, Bound, settings-own, noted-bound, reply-read}
+use Rattle.link.proofs.Requests.{frame-least, frame-most, frame-whole, Acts, acts, Bound, table-bound, noted-bound, reply-read}
 use Rattle.link.proofs.Types.{fresh-typed}
 
 -- ---- what the contracts say
@@ -73,7 +75,11 @@ module _ {q : Request} {n : ℕ} {room out : List ℕ} (written : Writing q room
 
 -- the book of a board
 pub bound : (b : Board) → TypedBoard b → Bound (bookOf (b .memory .settings))
-bound b typed = record { own = settings-own (b .memory .settings); typed = typed .fields }
+bound b typed = table-bound (b .memory .settings) (typed .table)
+
+-- and its table, where it is sound
+pub kept : (b : Board) → Ready b → TypedBoard b → Kept (b .memory .settings)
+kept b can typed = record { good = sound-memory (stateOf b) (can .sound) .good; bytes = typed .table }
 
 -- "a written frame, offered whole to a sound board with room enough and nothing unfinished, is accepted"
 module _ {q : Request} {n : ℕ} {room out : List ℕ} (written : Writing q room (Frame n) out) (typed : TypedIn q)
@@ -97,8 +103,8 @@ module _ {q : Request} {n : ℕ} {room out : List ℕ} (written : Writing q room
   taken = one-unit .taken ∙ sym (length-is written)
 
   -- the reply and the order are the book's
-  pub replied : take (r .written) after ≡ replyTo book q
-  replied = one-unit .reply ∙ done .reply
+  pub replied : TypedBoard b → take (r .written) after ≡ replyTo book q
+  replied fit = one-unit .reply ∙ done .reply (kept b can fit)
 
   pub ordered : given (r .order) ≡ ordersBy q
   ordered = one-unit .order ∙ done .orders
@@ -118,11 +124,11 @@ module _ {q : Request} {n : ℕ} {room out : List ℕ} (written : Writing q room
   pub ready-again : Ready (r .board)
   ready-again = record { sound = keeps-sound got (can .sound); idle = ap (λ (y : Board). y .count) (one-unit .board) }
 
-  -- its fields still fit their types
+  -- its table is still of bytes
   pub typed-again : TypedBoard b → TypedBoard (r .board)
   typed-again fit =
       record {
-        fields = subst TypedBook (sym next-book) (noted-bound book q (bound b fit) typed .typed);
+        table = subst (λ (y : Board). OfBytes (y .memory .settings .bytes)) (sym (one-unit .board)) (done .table (kept b can fit) .bytes);
         bytes = subst (λ (n : ℕ). OfBytes (take n (r .board .held))) (sym (ready-again .idle)) (λ i. omega arith);
       }
 
@@ -130,8 +136,8 @@ module _ {q : Request} {n : ℕ} {room out : List ℕ} (written : Writing q room
   pub read-back : TypedBoard b → (rest : List ℕ) {x : Reading} → Reads (take (r .written) after ++ rest) x
       → readAs x ≡ answerOf (r .written) (answerTo book q)
   read-back fit rest got-read =
-      has-read got-read ∙ ap (λ (u : List ℕ). firstAnswer (u ++ rest)) replied ∙ reply-read book q (bound b fit) rest
-      ∙ ap (λ (k : ℕ). answerOf k (answerTo book q)) (sym (one-unit .written ∙ ap length (done .reply)))
+      has-read got-read ∙ ap (λ (u : List ℕ). firstAnswer (u ++ rest)) (replied fit) ∙ reply-read book q (bound b fit) rest
+      ∙ ap (λ (k : ℕ). answerOf k (answerTo book q)) (sym (one-unit .written ∙ ap length (done .reply (kept b can fit))))
 
 -- "the fields of its block are then those written", and no other block changes
 module _ {f : Fields} {n : ℕ} {room out : List ℕ} (written : Writing (Set f) room (Frame n) out) (typed : Typed f)
@@ -173,12 +179,13 @@ asked-orders (ask typed written wide got rest) can =
     λ i. ordered written typed got can wide i ++ asked-orders rest (ready-again written typed got can wide) i
 
 -- the replies are the book's
-asked-replies : {b end : Board} {qs : List Request} {reply : List ℕ} {orders : List Order} → Asked b qs reply orders end → Ready b
+asked-replies : {b end : Board} {qs : List Request} {reply : List ℕ} {orders : List Order} → Asked b qs reply orders end → Ready b → TypedBoard b
     → reply ≡ repliesTo (bookOf (b .memory .settings)) qs
-asked-replies none can = refl
-asked-replies (ask {qs = qs} typed written wide got rest) can =
-    let ih = asked-replies rest (ready-again written typed got can wide) ∙ ap (λ (k : Book). repliesTo k qs) (next-book written typed got can wide) in
-    λ i. replied written typed got can wide i ++ ih i
+asked-replies none can fit = refl
+asked-replies (ask {qs = qs} typed written wide got rest) can fit =
+    let ih = asked-replies rest (ready-again written typed got can wide) (typed-again written typed got can wide fit) in
+    let next = ap (λ (k : Book). repliesTo k qs) (next-book written typed got can wide) in
+    λ i. replied written typed got can wide fit i ++ (ih ∙ next) i
 
 asked-typed : {b end : Board} {qs : List Request} {reply : List ℕ} {orders : List Order} → Asked b qs reply orders end → TypedAll qs
 asked-typed none = tt
@@ -191,7 +198,7 @@ asked-blocks none can c = refl
 asked-blocks (ask {qs = qs} typed written wide got rest) can c =
     asked-blocks rest (ready-again written typed got can wide) c ∙ ap (λ (k : Book). notedAll k qs c) (next-book written typed got can wide)
 
--- flags and last refused field stay, the board can be asked again, and its fields still fit their types
+-- flags and last refused field stay, the board can be asked again, and its table is still of bytes
 pub asked-notes : {b end : Board} {qs : List Request} {reply : List ℕ} {orders : List Order} → Asked b qs reply orders end → Ready b
     → end .memory .notes ≡ b .memory .notes
 asked-notes none can = refl
@@ -213,7 +220,7 @@ pub asked-read : {b end : Board} {qs : List Request} {reply rest : List ℕ} {or
     → Ready b → TypedBoard b → ReadOff reply xs rest → length xs ≡ length qs → AnswerForAnswer xs (answersTo (bookOf (b .memory .settings)) qs) × (rest ≡ [])
 asked-read {b = b} {qs = qs} {rest = rest} {xs = xs} asked can typed off e =
     replies-read (bookOf (b .memory .settings)) qs (bound b typed) (asked-typed asked)
-    (subst (λ (l : List ℕ). ReadOff l xs rest) (asked-replies asked can) off) e
+    (subst (λ (l : List ℕ). ReadOff l xs rest) (asked-replies asked can typed) off) e
 
 -- ---- FROM A FRESH BOARD, as `state::fresh` promises it: nothing is asked of the board
 
@@ -222,12 +229,12 @@ module _ (κs : _) (a : _) (b : Board) (s : _) (is : fresh.Post κs a b s) where
   fresh-ready = record { sound = fresh-sound κs a b s is; idle = ap (λ (y : Board). y .count) is }
 
   pub fresh-asked-blocks : {end : Board} {qs : List Request} {reply : List ℕ} {orders : List Order} → Asked b qs reply orders end
-      → (c : Block) → bookOf (end .memory .settings) c ≡ notedAll (bookOf freshSettings) qs c
+      → (c : Block) → bookOf (end .memory .settings) c ≡ notedAll (bookOf freshTable) qs c
   fresh-asked-blocks {qs = qs} asked c =
       asked-blocks asked fresh-ready c ∙ ap (λ (y : Board). notedAll (bookOf (y .memory .settings)) qs c) is
 
   pub fresh-asked-read : {end : Board} {qs : List Request} {reply rest : List ℕ} {orders : List Order} {xs : List Reading} → Asked b qs reply orders end
-      → ReadOff reply xs rest → length xs ≡ length qs → AnswerForAnswer xs (answersTo (bookOf freshSettings) qs) × (rest ≡ [])
+      → ReadOff reply xs rest → length xs ≡ length qs → AnswerForAnswer xs (answersTo (bookOf freshTable) qs) × (rest ≡ [])
   fresh-asked-read {qs = qs} {rest = rest} {xs = xs} asked off e =
       subst (λ (y : Board). AnswerForAnswer xs (answersTo (bookOf (y .memory .settings)) qs) × (rest ≡ [])) is
       (asked-read asked fresh-ready (fresh-typed κs a b s is) off e)

@@ -8,15 +8,14 @@ use Rattle.wire.specs.Numbers.{leBytes}
 use Rattle.frame.specs.Frame.{framed}
 use Rattle.names.specs.declared.Order.{Order}
 use Rattle.names.specs.declared.Order.the-variants.{Stop, Sstp, Pwof, Left, Rigt, Home, Loft}
-use Rattle.settings.specs.declared.Settings.{Settings}
+use Rattle.table.specs.declared.Table.{Table}
+use Rattle.table.specs.Table.{numbersAt}
 use Rattle.host.specs.Names.{setOf, getOf, orderName, blockNumber}
 use Rattle.host.specs.declared.Block.{Block}
 use Rattle.host.specs.declared.Order.{Order as Asked}
 use Rattle.host.specs.declared.Order.the-variants as asked
-use Rattle.fields.specs.Fields.{blockOf, sectionOf}
+use Rattle.fields.specs.Fields.{blockOf, fieldsOf, sectionOf}
 use Rattle.fields.specs.declared.Fields.{Fields}
-use Rattle.blocks.specs.Blocks.{fieldsAt}
-use Rattle.blocks.specs.declared.Blocks.{Blocks}
 use Rattle.request.specs.declared.Request.{Request}
 use Rattle.request.specs.declared.Request.the-variants.{Get, Set, Give}
 use Rattle.answer.specs.declared.Answer.{Answer}
@@ -26,12 +25,9 @@ use Rattle.answer.specs.declared.Answer.the-variants.{SetEcho, OrderEcho, Data}
 abbrev pub Book : Type 0
 Book = Block → Fields
 
--- what a board holds in its settings, as the host's record of blocks, and as a book
-abbrev pub blocksOf : Settings → Blocks
-blocksOf s = record { mov = s .mov; eng = s .eng; pwr = s .pwr; eds = s .eds; hom = s .hom; brk = s .brk; pid = s .pid }
-
-abbrev pub bookOf : Settings → Book
-bookOf s = fieldsAt (blocksOf s)
+-- what a board holds in its table
+abbrev pub bookOf : Table → Book
+bookOf t c = fieldsOf c (numbersAt t (blockNumber c))
 
 -- a set is noted in its block's place; nothing else changes the book. 02, P1: "the fields of its block are then those written"
 abbrev pub noted : Book → Request → Book

@@ -10,19 +10,23 @@ use Rattle.rule.specs.Run.{Item, at}
 use Rattle.rule.specs.Framing.{Token, whole}
 use Rattle.rule.specs.Rule.{Said, quiet, then, deal, wholeRun}
 use Rattle.rule.specs.Calls.{call}
+use Rattle.sheet.specs.Sheet.{sheet}
+use Rattle.table.specs.Places.{wholeOf}
 use Rattle.position.specs.declared.Position.{Position}
 use Rattle.names.specs.Names.{orderNumber, given, kindAt}
 use Rattle.names.specs.declared.Kind.the-variants.{Finds}
 use Rattle.names.specs.declared.Order.{Order}
 use Rattle.unit.specs.Unit.{Event, freshMemory}
-use Rattle.unit.specs.Protocol.{protocol}
+use Rattle.unit.specs.Protocol.{protocol, freshState}
 use Rattle.unit.specs.Touched.{stepsPart, microstepsPart, countPart, standsAt, positionReply}
-use Rattle.state.specs.State.{stateOf}
+use Rattle.state.specs.State.{stateOf, boardOf}
+use Rattle.state.specs.Parts.{restOf}
 use Rattle.state.specs.Sound.{refusalOf}
-use Rattle.state.specs.Returned.{Returned}
 use Rattle.state.specs.declared.Board.{Board}
 use Rattle.state.specs.declared.Call.{Call}
 use Rattle.state.specs.declared.Report.{Report}
+use Rattle.flash.specs.Flash.{withSettings}
+use Rattle.flash.proofs.Back.{comes-back}
 use Rattle.receiver.specs.Receive.{answer}
 use Rattle.demands.specs.Calls.{Answers}
 use Rattle.demands.specs.Reports as reports
@@ -33,29 +37,32 @@ use Rattle.demands.proofs.Calls.{promise, refTo, receive-some}
 use Rattle.demands.proofs.Reports.{report-promise, report-some}
 use Rattle.demands.proofs.Positions.{place-promise, place-some}
 use Rattle.demands.proofs.Runs.{from-fresh, any-cutting, position-steps, position-microsteps, position-count, gpos-sends}
-use Rattle.board.specs.Answer.{flat}
-use Rattle.board.specs.declared.Answer.{Answer}
-use Rattle.linked.specs.Board.{Starts, Receives, Hears, Locates, allowed, time, place, OrderSeen, orderSeen, saidBy, numbered, Step, called, told, Offered}
+use Rattle.board.specs.Answer.{Left, flat, Answered}
+use Rattle.linked.specs.Board.{Starts, Receives, Hears, Locates, HandsOut, TakesBack, allowed, time, place, OrderSeen, orderSeen, saidBy, numbered, Step, called, told, Offered}
 
 -- ---- each export allows what the function behind it allows, and nothing else
 
 module _ {b : Board} {t : ℕ} {p before after : List ℕ} where
   -- what it says
-  receives-promise : {r : Answer} → Receives b t p before r after
-      → Returned (λ c. flat (answer b c)) (call protocol (refusalOf b) (stateOf b) t (length before) p) before r after
-  receives-promise (allowed κs a s got e f g h k) = rw (← e, ← f, ← g, ← h, ← k) got
+  receives-promise : {r : Left} → Receives b t p before r after → Answered b t p before r after
+  receives-promise (allowed κs a x s got e f g h k l) = rw (← e, ← f, ← g, ← h, ← k, ← l) got
 
-  pub receives : {r : Answer} → Receives b t p before r after → (c : Call) × Answers b t p before c after × (r ≡ flat c)
+  pub receives : {r : Left} → Receives b t p before r after → (c : Call) × Answers b t p before c after × (r ≡ flat c)
   receives got =
       let said = receives-promise got in
       let c = answer b (call protocol (refusalOf b) (stateOf b) t (length before) p) in
       (c, subst (λ (l : List ℕ). Answers b t p before c l) (sym (said .reply)) (receive-some b t p before), said .result)
 
   pub receives-all : {c : Call} → Answers b t p before c after → Receives b t p before (flat c) after
-  receives-all got =
+  receives-all {c} got =
       let said = promise got in
-      allowed ([], ([], tt)) (b, (refTo p, (t, (refTo before, tt)))) (b, (refTo p, (t, (refTo after, tt)))) (record { result = ap flat (said .result); reply = said .reply })
-      refl refl refl refl refl
+      let d = c .board in
+      allowed ([], ([], ([], ([], tt))))
+      (refTo (b .memory .settings .bytes), (refTo (b .held), (restOf b, (refTo p, (t, (refTo before, tt))))))
+      (flat c .answer)
+      (refTo (d .memory .settings .bytes), (refTo (d .held), (restOf b, (refTo p, (t, (refTo after, tt))))))
+      (record { result = ap flat (said .result); reply = said .reply })
+      refl refl refl refl refl refl
 
 module _ {b : Board} {time : ℕ} {r : Report} where
   pub hears : Hears b time r → Reports b time r
@@ -86,8 +93,8 @@ step-is {b} (called {t = t} {p} {before} {after} {r} got) =
     let c = receives got in
     let same : r ≡ flat (c .0) = c .2 in
     let said : saidBy r after ≡ numbered (runs.saidBy (c .0) after) =
-    ap (λ (y : Answer). saidBy y after) same ∙ (λ i. record { reply = take (c .0 .written) after; orders = sym (given-seen (c .0 .order)) i; next = c .0 .board }) in
-    (runs.saidBy (c .0) after, subst (λ (k : ℕ). runs.Step b (at t (take k p)) (runs.saidBy (c .0) after)) (ap (λ (y : Answer). y .taken) (sym same)) (runs.called (c .1)), said)
+    ap (λ (y : Left). saidBy y after) same ∙ (λ i. record { reply = take (c .0 .written) after; orders = sym (given-seen (c .0 .order)) i; next = c .0 .board }) in
+    (runs.saidBy (c .0) after, subst (λ (k : ℕ). runs.Step b (at t (take k p)) (runs.saidBy (c .0) after)) (ap (λ (y : Left). y .answer .taken) (sym same)) (runs.called (c .1)), said)
 step-is (told {next = after} (time got)) = (quiet after, runs.told (reports.time (hears got)), refl)
 step-is (told {next = after} (place got)) = (quiet after, runs.told (reports.place (locates got)), refl)
 
@@ -129,3 +136,12 @@ module _ {b : Board} {run all : List (Item Event)} {x : Said OrderSeen Board} (h
   pub linked-gpos : (before after : List (Token Event)) (g : List ℕ) → tokensOf all ≡ before ++ whole g ∷ after → kindAt g ≡ Finds
       → let m = memoryBehind (b .memory) before in x .reply ≡ deal protocol (b .memory) before .reply ++ (positionReply (m .position) ++ deal protocol m after .reply)
   linked-gpos before after g cut e = ap (λ (z : Said OrderSeen Board). z .reply) (y .2) ∙ gpos-sends (y .1) from before after g cut e
+
+-- ---- the flash writer's table
+
+-- WHAT WAS HANDED OUT COMES BACK, of what C and Rust link: a fresh board with the same settings
+pub linked-back : {b : Board} {before after : List ℕ} {r : Report} → HandsOut b before 0 after → TakesBack (take (wholeOf sheet) after) r
+    → r ≡ record { number = 0; board = withSettings (boardOf freshState) (b .memory .settings) }
+linked-back (allowed κs a s got e f g) (allowed κs' a' s' is stored) =
+    comes-back κs a 0 s got refl κs' a' _ s' is (stored ∙ ap (take (wholeOf sheet)) (sym g))
+    ∙ ap (λ (x : Board). record { number = 0; board = withSettings (boardOf freshState) (x .memory .settings) }) e

@@ -4,7 +4,7 @@ use mathlib.Core.Path.{_≡_, refl, ap, sym, subst, _∙_}
 use mathlib.Core.List.{List, [], _∷_, _++_, map, map-append}
 use native.Mathlib.Omega.{arith}
 use lib.ListN.{length, take, drop, length-map}
-use Rattle.settings.specs.Settings.{freshSettings}
+use Rattle.table.specs.Table.{freshTable}
 use Rattle.position.specs.Position.{travelOf}
 use Rattle.names.specs.Names.{given}
 use Rattle.names.specs.declared.Order.{Order}
@@ -12,8 +12,7 @@ use Rattle.state.specs.declared.Board.{Board}
 use Rattle.state.specs.declared.Call.{Call}
 use Rattle.demands.specs.Calls.{Answers}
 use Rattle.demands.proofs.Calls.{refTo}
-use Rattle.board.specs.Answer.{flat}
-use Rattle.board.specs.declared.Answer.{Answer as FlatCall}
+use Rattle.board.specs.Answer.{flat, Left as FlatCall}
 use Rattle.host.specs.Names.{blockNumber, blockAt, orderAt, orderNumber as numberOf}
 use Rattle.host.specs.declared.Block.{Block}
 use Rattle.host.specs.declared.Order as host
@@ -153,7 +152,7 @@ asked-is (ask {b} {end} {q} {w} {t} {room} {out} {before} {after} {r} {qs} {repl
     let c = receives got in
     subst
     (λ (y : FlatCall). (N : Type 0) → Behind (y .board) qs reply orders end N
-    → Behind b (q ∷ qs) (saidBy y after .reply ++ reply) (saidBy y after .orders ++ orders) end (((y .number ≡ 0) × (y .taken ≡ w .size)) × N))
+    → Behind b (q ∷ qs) (saidBy y after .reply ++ reply) (saidBy y after .orders ++ orders) end (((y .answer .number ≡ 0) × (y .answer .taken ≡ w .size)) × N))
     (sym (c .2)) (first (c .0) (c .1)) (NoRefusal rest) (asked-is rest)
   where
     first : (c : Call) → Answers b t (take (w .size) out) before c after → (N : Type 0) → Behind (c .board) qs reply orders end N
@@ -209,7 +208,7 @@ asked-seen (Get b ∷ qs) = asked-seen qs
 asked-seen (Set f ∷ qs) = asked-seen qs
 asked-seen (Give o ∷ qs) = λ i. order-given o i ∷ asked-seen qs i
 
--- THE SEQUENCE OF P1, of what C and Rust link: on any board that is ready and whose fields fit their types
+-- THE SEQUENCE OF P1, of what C and Rust link: on any board that is ready and whose bytes are below 256, as their type says
 pub asked-served : {b end : Board} {qs : List Request} {reply : List ℕ} {orders : List OrderSeen} (asked : Asked b qs reply orders end) → Ready b → TypedBoard b
     → Served (bookOf (b .memory .settings)) asked
 asked-served {b = b} {qs = qs} asked can fit =
@@ -232,7 +231,7 @@ asked-served {b = b} {qs = qs} asked can fit =
 
 -- and on the board that they start with: nothing is asked of it
 pub fresh-served : {b end : Board} {qs : List Request} {reply : List ℕ} {orders : List OrderSeen} (asked : Asked b qs reply orders end) → Starts b
-    → Served (bookOf freshSettings) asked
+    → Served (bookOf freshTable) asked
 fresh-served {b} asked (board.allowed κs a s is) =
     subst (λ (y : Board). Served (bookOf (y .memory .settings)) asked) is (asked-served asked (fresh-ready tt tt b tt is) (fresh-typed tt tt b tt is))
 

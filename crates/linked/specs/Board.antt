@@ -13,24 +13,28 @@ use Rattle.names.specs.declared.Order.{Order}
 use Rattle.position.specs.declared.Travel.{Travel}
 use Rattle.position.specs.declared.Position.{Position}
 use Rattle.unit.specs.Unit.{Event, clock, position}
+use Rattle.state.specs.Parts.{boardAt}
 use Rattle.state.specs.declared.Board.{Board}
 use Rattle.state.specs.declared.Report.{Report}
 use Rattle.demands.specs.Runs.{heard, OfferedBy}
-use Rattle.board.specs.declared.Answer.{Answer}
-use Rattle.board.proofs.rivertosku_fresh_2.Reads as fresh
-use Rattle.board.proofs.rivertosku_receive_2.Reads as receive
-use Rattle.board.proofs.rivertosku_report_clock_2.Reads as report-clock
-use Rattle.board.proofs.rivertosku_report_position_2.Reads as report-position
+use Rattle.board.specs.Answer.{Left, leftIn}
+use Rattle.board.proofs.rivertosku_fresh_3.Reads as fresh
+use Rattle.board.proofs.rivertosku_receive_3.Reads as receive
+use Rattle.board.proofs.rivertosku_report_clock_3.Reads as report-clock
+use Rattle.board.proofs.rivertosku_report_position_3.Reads as report-position
+use Rattle.board.proofs.rivertosku_hand_out_3.Reads as hand-out
+use Rattle.board.proofs.rivertosku_take_back_3.Reads as take-back
 
 -- THE CONTRACT OF RIVERTOSKU_FRESH allows the board b
 pub data Starts (b : Board) : Type 0 where
   allowed : (κs : _) (a : _) (s : _) → fresh.Post κs a b s → Starts b
 
--- THE CONTRACT OF RIVERTOSKU_RECEIVE allows the answer r, with the reply buffer `after` at exit, to a call on the board b at the stamp t, with the
--- piece p and the reply buffer `before` at entry
-pub data Receives (b : Board) (t : ℕ) (p before : List ℕ) (r : Answer) (after : List ℕ) : Type 0 where
-  allowed : (κs : _) (a : _) (s : _) → receive.Post κs a r s
-      → a .0 ≡ b → now (a .1 .0) ≡ p → a .1 .1 .0 ≡ t → now (a .1 .1 .1 .0) ≡ before → now (s .1 .1 .1 .0) ≡ after
+-- THE CONTRACT OF RIVERTOSKU_RECEIVE allows what r says, the answer and the board that the lent arrays make at exit, with the reply buffer `after`, to a
+-- call on the board b, its arrays lent and its rest by value, at the stamp t, with the piece p and the reply buffer `before` at entry
+pub data Receives (b : Board) (t : ℕ) (p before : List ℕ) (r : Left) (after : List ℕ) : Type 0 where
+  allowed : (κs : _) (a : _) (answer : _) (s : _) → receive.Post κs a answer s
+      → boardAt (now (a .0)) (now (a .1 .0)) (a .1 .1 .0) ≡ b → now (a .1 .1 .1 .0) ≡ p → a .1 .1 .1 .1 .0 ≡ t → now (a .1 .1 .1 .1 .1 .0) ≡ before
+      → leftIn (now (s .0)) (now (s .1 .0)) answer ≡ r → now (s .1 .1 .1 .1 .1 .0) ≡ after
       → Receives b t p before r after
 
 -- THE CONTRACT OF RIVERTOSKU_REPORT_CLOCK allows the answer r to the time `now`, reported to the board b
@@ -40,6 +44,14 @@ pub data Hears (b : Board) (now : ℕ) (r : Report) : Type 0 where
 -- THE CONTRACT OF RIVERTOSKU_REPORT_POSITION allows the answer r to the position p, reported to the board b
 pub data Locates (b : Board) (p : Position) (r : Report) : Type 0 where
   allowed : (κs : _) (a : _) (s : _) → report-position.Post κs a r s → a .0 ≡ b → a .1 .0 ≡ p → Locates b p r
+
+-- THE CONTRACT OF RIVERTOSKU_HAND_OUT allows the number n, with the lent bytes `before` at entry and `after` at exit, to the board b
+pub data HandsOut (b : Board) (before : List ℕ) (n : ℕ) (after : List ℕ) : Type 0 where
+  allowed : (κs : _) (a : _) (s : _) → hand-out.Post κs a n s → a .0 ≡ b → now (a .1 .0) ≡ before → now (s .1 .0) ≡ after → HandsOut b before n after
+
+-- THE CONTRACT OF RIVERTOSKU_TAKE_BACK allows the answer r to these bytes
+pub data TakesBack (bytes : List ℕ) (r : Report) : Type 0 where
+  allowed : (κs : _) (a : _) (s : _) → take-back.Post κs a r s → now (a .0) ≡ bytes → TakesBack bytes r
 
 -- a report of what an event says, by the export for that kind of report
 pub data Tells (b : Board) : Event → ℕ → Board → Type 0 where
@@ -53,9 +65,11 @@ OrderSeen = ℕ × Travel
 abbrev pub orderSeen : Order → OrderSeen
 orderSeen o = (orderNumber o, orderTravel o)
 
--- what a flat answer says: the bytes written in the buffer, its order by number and values, and the next board
-abbrev pub saidBy : Answer → List ℕ → Said OrderSeen Board
-saidBy r after = record { reply = take (r .written) after; orders = cond (eqb (r .order) 0) [] ((r .order, record { steps = r .steps; microsteps = r .microsteps }) ∷ []); next = r .board }
+-- what a call says: the bytes written in the buffer, its order by number and values, and the next board
+abbrev pub saidBy : Left → List ℕ → Said OrderSeen Board
+saidBy r after =
+    let x = r .answer in
+    record { reply = take (x .written) after; orders = cond (eqb (x .order) 0) [] ((x .order, record { steps = x .steps; microsteps = x .microsteps }) ∷ []); next = r .board }
 
 -- what is said, with the orders by their numbers and values
 abbrev pub numbered : Said Order Board → Said OrderSeen Board
@@ -63,7 +77,7 @@ numbered x = record { reply = x .reply; orders = map orderSeen (x .orders); next
 
 -- one step of a main loop of C or Rust
 pub data Step : Board → List (Item Event) → Said OrderSeen Board → Type 0 where
-  called : {b : Board} {t : ℕ} {p before after : List ℕ} {r : Answer} → Receives b t p before r after → Step b (at t (take (r .taken) p)) (saidBy r after)
+  called : {b : Board} {t : ℕ} {p before after : List ℕ} {r : Left} → Receives b t p before r after → Step b (at t (take (r .answer .taken) p)) (saidBy r after)
   told : {b next : Board} {e : Event} {number : ℕ} → Tells b e number next → Step b (heard number e) (quiet next)
 
 -- a run offered by such steps in any cutting

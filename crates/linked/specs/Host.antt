@@ -7,7 +7,7 @@ use lib.ListN.{length, take, drop}
 use Rattle.position.specs.Position.{travelOf}
 use Rattle.unit.specs.Protocol.{protocol}
 use Rattle.state.specs.declared.Board.{Board}
-use Rattle.board.specs.declared.Answer.{Answer as Call}
+use Rattle.board.specs.Answer.{Left}
 use Rattle.host.specs.Names.{blockAt, orderAt, orderNumber}
 use Rattle.host.specs.declared.Block.{Block}
 use Rattle.host.specs.declared.Order.{Order}
@@ -62,7 +62,7 @@ pub data Asks : Request → List ℕ → FlatWritten → List ℕ → Type 0 whe
 -- replies joined, the orders by their numbers and values, and the board at the end
 pub data Asked : Board → List Request → List ℕ → List OrderSeen → Board → Type 0 where
   none : {b : Board} → Asked b [] [] [] b
-  ask : {b end : Board} {q : Request} {w : FlatWritten} {t : ℕ} {room out before after : List ℕ} {r : Call} {qs : List Request} {reply : List ℕ} {orders : List OrderSeen}
+  ask : {b end : Board} {q : Request} {w : FlatWritten} {t : ℕ} {room out before after : List ℕ} {r : Left} {qs : List Request} {reply : List ℕ} {orders : List OrderSeen}
       → TypedIn q → Asks q room w out → w .number ≡ 0 → protocol .leastRoom ≤ length before → Receives b t (take (w .size) out) before r after
       → Asked (r .board) qs reply orders end
       → Asked b (q ∷ qs) (saidBy r after .reply ++ reply) (saidBy r after .orders ++ orders) end
@@ -70,7 +70,7 @@ pub data Asked : Board → List Request → List ℕ → List OrderSeen → Boar
 -- each call answered 0 and took its frame whole
 abbrev pub NoRefusal : {b end : Board} {qs : List Request} {reply : List ℕ} {orders : List OrderSeen} → Asked b qs reply orders end → Type 0
 NoRefusal none = Unit {0}
-NoRefusal (ask {w = w} {r = r} typed asking zero wide got rest) = ((r .number ≡ 0) × (r .taken ≡ w .size)) × NoRefusal rest
+NoRefusal (ask {w = w} {r = r} typed asking zero wide got rest) = ((r .answer .number ≡ 0) × (r .answer .taken ≡ w .size)) × NoRefusal rest
 
 -- bytes read from their front by rivertosku_read, answer after answer, and what is left of them
 pub data ReadOff : List ℕ → List FlatAnswer → List ℕ → Type 0 where

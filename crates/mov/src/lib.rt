@@ -4,6 +4,7 @@ ghost use mathlib.Core.Path.{_≡_};
 ghost use lib.Seq.{sets};
 ghost use Rattle.sheet.specs.Sheet.{movRow, smov, gmov};
 ghost use Rattle.sheet.specs.Rows.{headOf, numbersIn, dataOf, firstBad, fresh};
+ghost use Rattle.sheet.specs.Sections.{soundIn};
 ghost use Rattle.mov.specs.Mov.{movOf, movNumbers};
 
 #[repr(C)]
@@ -82,6 +83,17 @@ impl Mov {
                 true,
             ],
         )
+    }
+
+    // Whether a data section is sound: its fields in their ranges, its reserved bytes zero. It is asked at every call, so it reads only what it tests.
+    pub fn is_sound(part: &[u8]) -> bool
+        ensures { λ r. ⌜ r ≡ soundIn movRow (now (part .entry)) ⌝ }
+    {
+        ranges::is_within(0, 100000, wire::u32_at(part, 0) as u64)
+            & (ranges::is_within(1, 65535, wire::u16_at(part, 5) as u64)
+                & (ranges::is_within(1, 65535, wire::u16_at(part, 7) as u64)
+                    & (ranges::is_within(0, 100000, wire::u32_at(part, 9) as u64)
+                        & ((wire::u64_at(part, 14) == 0) & (wire::u16_at(part, 22) == 0)))))
     }
 
     pub fn fresh() -> Mov

@@ -6,6 +6,7 @@ use Rattle.pid.proofs.Pid.decode.Reads as decode
 use Rattle.pid.proofs.Pid.numbers.Reads as numbers
 use Rattle.pid.proofs.Pid.encode.Reads as encode
 use Rattle.pid.proofs.Pid.first_bad.Reads as first-bad
+use Rattle.pid.proofs.Pid.is_sound.Reads as is-sound
 use Rattle.pid.proofs.Pid.fresh.Reads as fresh
 
 pub head-one : Leaves head.Post (λ κs r s. r)
@@ -22,6 +23,9 @@ encode-one κs a r r' s s' p q = p ∙ sym q
 
 pub first-bad-one : Leaves first-bad.Post (λ κs r s. r)
 first-bad-one κs a r r' s s' p q = p ∙ sym q
+
+pub is-sound-one : Leaves is-sound.Post (λ κs r s. r)
+is-sound-one κs a r r' s s' p q = p ∙ sym q
 
 pub fresh-one : Leaves fresh.Post (λ κs r s. r)
 fresh-one κs a r r' s s' p q = p ∙ sym q

@@ -4,6 +4,7 @@ ghost use mathlib.Core.Path.{_≡_};
 ghost use lib.Seq.{sets};
 ghost use Rattle.sheet.specs.Sheet.{pidRow, spid, gpid};
 ghost use Rattle.sheet.specs.Rows.{headOf, numbersIn, dataOf, firstBad, fresh};
+ghost use Rattle.sheet.specs.Sections.{soundIn};
 ghost use Rattle.pid.specs.Pid.{pidOf, pidNumbers};
 
 #[repr(C)]
@@ -82,6 +83,17 @@ impl Pid {
                 ranges::is_finite(ns[5]),
             ],
         )
+    }
+
+    // Whether a data section is sound: its fields in their ranges, its reserved bytes zero. It is asked at every call, so it reads only what it tests.
+    pub fn is_sound(part: &[u8]) -> bool
+        ensures { λ r. ⌜ r ≡ soundIn pidRow (now (part .entry)) ⌝ }
+    {
+        ranges::is_finite(wire::u32_at(part, 6) as u64)
+            & (ranges::is_finite(wire::u32_at(part, 10) as u64)
+                & (ranges::is_finite(wire::u32_at(part, 14) as u64)
+                    & ((wire::u64_at(part, 18) == 0)
+                        & ((wire::u64_at(part, 26) == 0) & (wire::u64_at(part, 34) == 0)))))
     }
 
     pub fn fresh() -> Pid

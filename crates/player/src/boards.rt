@@ -1,5 +1,5 @@
-// The board: made in any state, called, told the time and the drive's position, shown. No other file reads or writes its fields. What is printed goes
-// through functions that hold no board: a statement beside a board makes a long proof.
+// The board: made in any state, called, told the time and the drive's position, its settings handed out and taken back, shown. No other file reads or
+// writes its fields. What is printed goes through functions that hold no board: a statement beside a board makes a long proof.
 use crate::print;
 use names::Order;
 use position::Count;
@@ -8,12 +8,19 @@ use position::Position;
 use position::Steps;
 use state::Board;
 use state::Report;
+use table::Table;
 use unit::Notes;
 
-pub fn put(mut board: Board, number: usize, section: &[u8]) -> Board {
+fn changed(settings: Table, place: usize, bytes: &[u8]) -> Table {
+    let mut table = settings.bytes;
+    wire::copy(&mut table, place, bytes);
+    Table { bytes: table }
+}
+
+pub fn put(mut board: Board, place: usize, bytes: &[u8]) -> Board {
     let mut memory = board.memory;
     let settings = memory.settings;
-    memory.settings = settings.put(number, section);
+    memory.settings = changed(settings, place, bytes);
     board.memory = memory;
     board
 }
@@ -144,17 +151,40 @@ pub fn report_position(board: Board, numbers: &[u8]) -> Board {
     show_report(drive::report_position(board, position_in(numbers)))
 }
 
-fn show_section(bad: usize, section: &[u8]) {
-    print::number(bad);
-    print::hexadecimal(section);
+fn show_buffer(number: u8, buffer: &[u8], room: usize) {
+    print::number(number as usize);
+    print::beginning(buffer, room);
+    print::say(b"\n");
+}
+
+fn hand_out_in(board: Board, room: usize, buffer: &mut [u8]) {
+    let size = print::within(buffer, room);
+    let number = flash::hand_out(board, &mut buffer[..size]);
+    show_buffer(number, buffer, size);
+}
+
+pub fn hand_out(board: Board, room: usize) -> Board {
+    let mut buffer = print::buffer();
+    hand_out_in(board, room, &mut buffer);
+    board
+}
+
+pub fn take_back(bytes: &[u8]) -> Board {
+    show_report(flash::take_back(bytes))
+}
+
+fn show_section(settings: Table, number: usize) {
+    let mut section = [0xeeu8; sheet::FRAME];
+    let bytes = settings.bytes;
+    table::get(&bytes, number, &mut section);
+    print::number(table::bad_in(number, &section));
+    print::hexadecimal(&section);
     print::say(b"\n");
 }
 
 pub fn show_block(board: Board, number: usize) -> Board {
     let settings = board.memory.settings;
-    let mut section = [0xeeu8; sheet::FRAME];
-    settings.get(number, &mut section);
-    show_section(settings.first_bad(number), &section);
+    show_section(settings, number);
     board
 }
 

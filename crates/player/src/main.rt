@@ -5,13 +5,15 @@
 //
 //   "  say       prints the bytes as they are: the label of what follows
 //   f  fresh     the board is fresh
-//   p  put       the bytes are a data section, put into the block of this number unchecked
+//   t  take      the bytes are settings, taken back: the board is the one that they make. Prints the number
+//   p  put       the bytes are put into the settings, unchecked, from the place on that the room says
 //   n  note      flags, last refused block and field are three numbers of 4 bytes
 //   w  where     the bytes are the position, unchecked: steps (4), microsteps (2) and count (8)
 //   h  hold      the bytes are held, with zeros behind, the room is their count, and the stamp is the last one
 //   c  call      the bytes are the piece. Prints number, taken, written, order, the reply (or, if it is longer, that number of the buffer's bytes)
 //   r  report    the stamp is the time. Prints the number
 //   d  drive     the bytes are the position that the drive reports, as in `where`. Prints the number
+//   l  lay out   the settings are handed out into a buffer. Prints number, the whole buffer
 //   b  block     prints the first field out of range in the block of this number, 0 if none is, and its data section as a get sends it
 //   k  keeps     prints all the bytes that the board has room to hold, spare ones too
 //   g  get       the host writes the get of the block of this number. Prints number, length, the whole buffer
@@ -21,8 +23,8 @@
 //   x  checksum  prints the CRC of the bytes
 //   i  integer   prints the stamp's low 16 bits as a signed number
 //
-// Behind what a call or a report prints: flags, last refused block and field, position, count of unfinished bytes, these bytes, last stamp. A
-// position is printed as steps:microsteps:count, an order as the bench prints it. Buffers have as many bytes as the room says, 256 at most, all ee
+// Behind what `take`, a call or a report prints: flags, last refused block and field, position, count of unfinished bytes, these bytes, last stamp.
+// A position is printed as steps:microsteps:count, an order as the bench prints it. Buffers have as many bytes as the room says, 256 at most, all ee
 // before. Every operation that prints ends the line, but for `say`.
 // A get, a set or an order of a number that nobody has prints `no such number`.
 mod arithmetic;
@@ -83,25 +85,10 @@ fn show(head: Head, bytes: &[u8]) {
     }
 }
 
-// One case; the next board.
-fn step(head: Head, board: Board, bytes: &[u8]) -> Board {
+// A call, a report, a look at the board, or a case without one; the next board.
+fn ask(head: Head, board: Board, bytes: &[u8]) -> Board {
     let operation = head.operation;
     match operation {
-        b'f' => {
-            return state::fresh();
-        }
-        b'p' => {
-            return boards::put(board, head.number, bytes);
-        }
-        b'n' => {
-            return boards::note(board, bytes);
-        }
-        b'w' => {
-            return boards::place(board, bytes);
-        }
-        b'h' => {
-            return boards::hold(board, head.room, head.stamp, bytes);
-        }
         b'c' => {
             return boards::call(board, head.number, head.room, head.stamp, bytes);
         }
@@ -110,6 +97,9 @@ fn step(head: Head, board: Board, bytes: &[u8]) -> Board {
         }
         b'd' => {
             return boards::report_position(board, bytes);
+        }
+        b'l' => {
+            return boards::hand_out(board, head.room);
         }
         b'b' => {
             return boards::show_block(board, head.number);
@@ -120,6 +110,34 @@ fn step(head: Head, board: Board, bytes: &[u8]) -> Board {
         _ => {
             show(head, bytes);
             return board;
+        }
+    }
+}
+
+// One case; the next board.
+fn step(head: Head, board: Board, bytes: &[u8]) -> Board {
+    let operation = head.operation;
+    match operation {
+        b'f' => {
+            return state::fresh();
+        }
+        b't' => {
+            return boards::take_back(bytes);
+        }
+        b'p' => {
+            return boards::put(board, head.room, bytes);
+        }
+        b'n' => {
+            return boards::note(board, bytes);
+        }
+        b'w' => {
+            return boards::place(board, bytes);
+        }
+        b'h' => {
+            return boards::hold(board, head.room, head.stamp, bytes);
+        }
+        _ => {
+            return ask(head, board, bytes);
         }
     }
 }

@@ -4,6 +4,7 @@ ghost use mathlib.Core.Path.{_≡_};
 ghost use lib.Seq.{sets};
 ghost use Rattle.sheet.specs.Sheet.{pwrRow, spwr, gpwr};
 ghost use Rattle.sheet.specs.Rows.{headOf, numbersIn, dataOf, firstBad, fresh};
+ghost use Rattle.sheet.specs.Sections.{soundIn};
 ghost use Rattle.pwr.specs.Pwr.{pwrOf, pwrNumbers};
 
 #[repr(C)]
@@ -78,6 +79,15 @@ impl Pwr {
                 ranges::has_only_bits(0x07, ns[4]),
             ],
         )
+    }
+
+    // Whether a data section is sound: its fields in their ranges, its reserved bytes zero. It is asked at every call, so it reads only what it tests.
+    pub fn is_sound(part: &[u8]) -> bool
+        ensures { λ r. ⌜ r ≡ soundIn pwrRow (now (part .entry)) ⌝ }
+    {
+        ranges::is_within(0, 100, wire::u8_at(part, 0) as u64)
+            & (ranges::has_only_bits(7, wire::u8_at(part, 7) as u64)
+                & ((wire::u32_at(part, 8) == 0) & (wire::u16_at(part, 12) == 0)))
     }
 
     pub fn fresh() -> Pwr

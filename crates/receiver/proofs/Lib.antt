@@ -1,3 +1,5 @@
 pub mod Lists
 pub mod Line
 pub mod Calls
+mod Parts
+pub mod One

@@ -27,8 +27,7 @@ use Rattle.state.specs.State.{stateOf, padded}
 use Rattle.state.specs.Returned.{Returned}
 use Rattle.state.specs.declared.Board.{Board}
 use Rattle.state.specs.declared.Call.{Call}
-use Rattle.line.specs.Line.{ran}
-use Rattle.line.proofs.Turns.{holding}
+use Rattle.line.specs.Line.{ran, holding}
 
 -- "without reply or flag": bytes that are dropped leave the memory
 lose-is : (m : Memory) (u : List ℕ) → lose protocol m u ≡ m

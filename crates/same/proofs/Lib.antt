@@ -1,4 +1,3 @@
 pub mod Alike
-pub mod Blocks
 pub mod Meaning
 pub mod One

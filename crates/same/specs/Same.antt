@@ -1,15 +1,12 @@
 -- When two boards are the same.
-use mathlib.Core.Bool.{Bool, true, false, cond}
+use mathlib.Core.Bool.{Bool, true, false, cond, _&&_}
 use mathlib.Core.List.{List, [], _∷_}
-use Prim.Native.Nat.{ℕ, zero, suc}
+use Prim.Native.Nat.{ℕ}
 use lib.Dec.{eqb}
+use mir.Syntax.{w16, w32, w64}
+use mir.Val.{ofZ}
 use Rattle.rule.specs.Rule.{State}
-use Rattle.sheet.specs.Sheet.{gposRow}
-use Rattle.sheet.specs.Rows.{dataOf}
-use Rattle.position.specs.Position.{positionNumbers}
 use Rattle.position.specs.declared.Position.{Position}
-use Rattle.settings.specs.Settings.{dataAt}
-use Rattle.settings.specs.declared.Settings.{Settings}
 use Rattle.unit.specs.declared.Notes.{Notes}
 use Rattle.unit.specs.declared.Memory.{Memory}
 use Rattle.state.specs.State.{stateOf}
@@ -21,35 +18,25 @@ unfoldable pub sameBytes : List ℕ → List ℕ → Bool
 sameBytes [] [] = true
 sameBytes [] (y ∷ ys) = false
 sameBytes (x ∷ xs) [] = false
-sameBytes (x ∷ xs) (y ∷ ys) = cond (eqb x y) (sameBytes xs ys) false
-
--- blocks 1 to n, each as a get sends it
-unfoldable pub sameTo : ℕ → Settings → Settings → Bool
-sameTo zero s t = true
-sameTo (suc n) s t = cond (sameBytes (dataAt s (suc n)) (dataAt t (suc n))) (sameTo n s t) false
-
--- all blocks
-abbrev pub sameSettings : Settings → Settings → Bool
-sameSettings s t = sameTo 7 s t
+sameBytes (x ∷ xs) (y ∷ ys) = eqb x y && sameBytes xs ys
 
 -- the flags, and the last refused block and field
 abbrev pub sameNotes : Notes → Notes → Bool
-sameNotes m n = cond (eqb (m .flags) (n .flags)) (cond (eqb (m .block) (n .block)) (eqb (m .field) (n .field)) false) false
+sameNotes m n = eqb (m .flags) (n .flags) && (eqb (m .block) (n .block) && eqb (m .field) (n .field))
 
--- the position, as gpos sends it
+-- the three quantities of the position, by their numbers on the wire
 abbrev pub samePositions : Position → Position → Bool
-samePositions p q = sameBytes (dataOf gposRow (positionNumbers p)) (dataOf gposRow (positionNumbers q))
+samePositions p q =
+    eqb (ofZ w32 (p .steps .0)) (ofZ w32 (q .steps .0))
+    && (eqb (ofZ w16 (p .microsteps .0)) (ofZ w16 (q .microsteps .0)) && eqb (ofZ w64 (p .count .0)) (ofZ w64 (q .count .0)))
 
--- what the rule knows of a board: the last stamp, the notes, the position, the unfinished bytes, the blocks
+-- what the rule knows of a board: the last stamp, the notes, the position, the unfinished bytes, the settings as gets send them
 abbrev pub sameStates : State Memory → State Memory → Bool
 sameStates s t =
-    cond (eqb (s .line .last) (t .line .last))
-    (cond (sameNotes (s .memory .notes) (t .memory .notes))
-    (cond (samePositions (s .memory .position) (t .memory .position))
-    (cond (sameBytes (s .line .unfinished) (t .line .unfinished)) (sameSettings (s .memory .settings) (t .memory .settings)) false)
-    false)
-    false)
-    false
+    eqb (s .line .last) (t .line .last)
+    && (sameNotes (s .memory .notes) (t .memory .notes)
+    && (samePositions (s .memory .position) (t .memory .position)
+    && (sameBytes (s .line .unfinished) (t .line .unfinished) && sameBytes (s .memory .settings .bytes) (t .memory .settings .bytes))))
 
 -- TWO BOARDS ARE THE SAME. Bytes behind the unfinished ones, and the gaps of a struct, play no part
 abbrev pub sameBoards : Board → Board → Bool

@@ -47,12 +47,12 @@ module _ (r : Row) where
   numbers-fit d b = numbers-room (widths r) 0 d b
 
   -- laid out aside, in a buffer that the longest frame fits, it stands in front
-  module _ (ns : List ℕ) (n : ℕ) (is : n ≡ total r) (most : total r ≤ longestFrame) (zs aside : List ℕ) (room : longestFrame ≡ length zs) (laid : aside ≡ sets zs 0 (dataOf r ns)) where
+  module _ (d : List ℕ) (long : length d ≡ total r - 6) (n : ℕ) (is : n ≡ total r) (most : total r ≤ longestFrame) (zs aside : List ℕ) (room : longestFrame ≡ length zs) (laid : aside ≡ sets zs 0 d) where
     pub aside-fits : n - 6 ≤ length aside
-    aside-fits = omega (arith, ap length laid ∙ length-sets zs 0 (dataOf r ns))
+    aside-fits = omega (arith, ap length laid ∙ length-sets zs 0 d)
 
-    pub aside-front : take (n - 6) aside ≡ dataOf r ns
-    aside-front = ap (take (n - 6)) laid ∙ front-stored zs (dataOf r ns) (n - 6) (data-length ns ∙ ap (λ (k : ℕ). k - 6) (sym is)) (omega arith)
+    pub aside-front : take (n - 6) aside ≡ d
+    aside-front = ap (take (n - 6)) laid ∙ front-stored zs d (n - 6) (long ∙ ap (λ (k : ℕ). k - 6) (sym is)) (omega arith)
 
 -- ---- the number of a fresh field is the smallest that its test takes
 

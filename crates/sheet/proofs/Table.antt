@@ -5,11 +5,10 @@ use mathlib.Core.List.{List, [], _∷_, _++_, map}
 use Prim.Native.Nat.{ℕ, _≤_, max}
 use native.Mathlib.Omega.{arith}
 use lib.Dec.{eqb}
-use Rattle.wire.proofs.Laid.{Room}
 use Rattle.ranges.specs.Tests.{within, signedWithin, finite, onlyBits, firstFalse}
 use Rattle.sheet.specs.Sheet.{Row, Command, sheet, setTable, getTable, move, movr, spos, gpos, movRow, engRow, pwrRow, edsRow, homRow, brkRow, pidRow}
 use Rattle.sheet.specs.Lengths.{longestFrame}
-use Rattle.sheet.specs.Rows.{widths, total, firstBad, fresh, least, rowAt, rowIn}
+use Rattle.sheet.specs.Rows.{total, firstBad, fresh, least, rowAt, rowIn}
 
 pub numbered : map (λ (r : Row). r .number) sheet ≡ 1 ∷ 2 ∷ 3 ∷ 4 ∷ 5 ∷ 6 ∷ 7 ∷ []
 numbered = refl
@@ -78,9 +77,3 @@ each-row P k mov eng pwr eds hom brk pid none =
 pub total-most : (k : ℕ) → total (rowAt k) ≤ longestFrame
 total-most k =
     each-row (λ (r : Row). total r ≤ longestFrame) k (omega arith) (omega arith) (omega arith) (omega arith) (omega arith) (omega arith) (omega arith) (omega arith)
-
--- on a fresh board every field has room in its width
-pub fresh-room : (k : ℕ) → Room (widths (rowAt k)) (fresh (rowAt k))
-unfolding least within signedWithin finite onlyBits
-fresh-room k =
-    each-row (λ (r : Row). Room (widths r) (fresh r)) k (omega arith) (omega arith) (omega arith) (omega arith) (omega arith) (omega arith) (omega arith) (omega arith)

@@ -20,9 +20,13 @@ widthsOf (f ∷ fs) = f .width ∷ widthsOf fs
 abbrev pub widths : Row → List ℕ
 widths r = widthsOf (r .fields)
 
+-- the bytes of a data section
+abbrev pub sizeOf : Row → ℕ
+sizeOf r = sum (widths r) + r .reserved
+
 -- "Total length counts identifier and CRC."
 abbrev pub total : Row → ℕ
-total r = 4 + (sum (widths r) + r .reserved) + 2
+total r = 4 + sizeOf r + 2
 
 -- "Each block has one length, one set name and one get name, fixed with the block."
 abbrev pub headOf : Command → Command → Head

@@ -5,9 +5,9 @@ use mathlib.Core.List.{List}
 use Prim.Native.Nat.{ℕ, _<_, _≤_}
 use native.Mathlib.Omega.{arith}
 use lib.ListN.{length, take, length-take}
-use borrow.Author.Tests.{le-leb, lt-leb}
+use borrow.Author.Tests.{eq-eqb, ne-eqb, le-leb, lt-leb}
 use Rattle.position.specs.Position.{soundPosition}
-use Rattle.settings.specs.Settings.{allGood}
+use Rattle.table.specs.Table.{allGood}
 use Rattle.sheet.specs.Lengths.{longestFrame}
 use Rattle.rule.specs.Rule.{State}
 use Rattle.rule.specs.Framing.{begun}
@@ -17,8 +17,11 @@ use Rattle.unit.specs.Protocol.{soundMemory, soundState, freshState}
 use Rattle.unit.specs.declared.Memory.{Memory}
 use Rattle.unit.proofs.Sound as sound
 use Rattle.state.specs.State.{stateOf, boardOf}
-use Rattle.state.specs.Sound.{soundBoard, refusalOf, wantedBy, verdictOf}
+use Rattle.state.specs.Sound.{soundBoard, refusalOf, wantedBy, refused, verdictOf, verdictAt}
+use Rattle.state.specs.Parts.{boardAt, restOf, callAt}
 use Rattle.state.specs.declared.Board.{Board}
+use Rattle.state.specs.declared.Rest.{Rest}
+use Rattle.state.specs.declared.Done.{Done}
 use Rattle.state.proofs.Padded.{padded-take}
 use Rattle.state.proofs.fresh.Reads as fresh
 
@@ -50,11 +53,11 @@ module _ (b : Board) where
   abbrev u : List ℕ
   u = take (b .count) (b .held)
 
-  pub judged-unbegun : wantedBy u ≡ 0 → verdictOf b ≡ record { number = 3; wants = 0 }
+  pub judged-unbegun : wantedBy u ≡ 0 → verdictOf b ≡ refused
   unfolding soundState
   judged-unbegun z = by (begun need u) refl
     where
-      by : (y : Bool) → begun need u ≡ y → verdictOf b ≡ record { number = 3; wants = 0 }
+      by : (y : Bool) → begun need u ≡ y → verdictOf b ≡ refused
       by true e = let w : need u ≡ 0 = ap (λ (c : Bool). cond c (need u) 0) (sym e) ∙ z in absurd (omega (arith, need-some u))
       by false e = rw e
 
@@ -66,22 +69,33 @@ module _ (b : Board) where
         by true e = refl
         by false e = absurd (some (rw e))
 
-    pub judged-flags : 7 < b .memory .notes .flags → verdictOf b ≡ record { number = 3; wants = 0 }
+    pub judged-flags : 7 < b .memory .notes .flags → verdictOf b ≡ refused
     unfolding soundState soundMemory
     judged-flags h = rw (is-begun, lt-leb _ _ h)
 
     module _ (flags : b .memory .notes .flags ≤ 7) where
-      pub judged-position : soundPosition (b .memory .position) ≡ false → verdictOf b ≡ record { number = 3; wants = 0 }
+      pub judged-position : soundPosition (b .memory .position) ≡ false → verdictOf b ≡ refused
       unfolding soundState soundMemory
       judged-position p = rw (is-begun, le-leb _ _ flags, p)
 
-      pub judged-settings : soundPosition (b .memory .position) ≡ true → allGood (b .memory .settings) ≡ false → verdictOf b ≡ record { number = 3; wants = 0 }
+      pub judged-settings : soundPosition (b .memory .position) ≡ true → allGood (b .memory .settings) ≡ false → verdictOf b ≡ refused
       unfolding soundState soundMemory
       judged-settings p g = rw (is-begun, le-leb _ _ flags, p, g)
 
       pub judged-sound : soundPosition (b .memory .position) ≡ true → allGood (b .memory .settings) ≡ true → verdictOf b ≡ record { number = 0; wants = wantedBy u }
       unfolding soundState soundMemory
       judged-sound p g = rw (is-begun, le-leb _ _ flags, p, g)
+
+-- one call is of one answer
+pub done-as : {t t' h h' : List ℕ} {d e : Done} → callAt t h d ≡ callAt t' h' e → d ≡ e
+done-as p = λ i. record { rest = restOf (p i .board); taken = p i .taken; written = p i .written; number = p i .number; order = p i .order }
+
+-- the verdict of parts
+pub verdict-full : (table held : List ℕ) (rest : Rest) → length held ≡ longestFrame → verdictAt table held rest ≡ verdictOf (boardAt table held rest)
+verdict-full table held rest full = rw (eq-eqb (length held) longestFrame full)
+
+pub verdict-other : (table held : List ℕ) (rest : Rest) → (length held ≡ longestFrame → ⊥) → verdictAt table held rest ≡ refused
+verdict-other table held rest other = rw (ne-eqb (length held) longestFrame other)
 
 -- "A fresh board is sound"
 pub fresh-sound : (κs : _) (a : _) (b s : _) → fresh.Post κs a b s → soundBoard b ≡ true

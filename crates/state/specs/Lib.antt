@@ -1,3 +1,4 @@
 pub mod State
+pub mod Parts
 pub mod Sound
 pub mod Returned

@@ -1,7 +1,7 @@
 // The board: what it keeps between calls, when that is sound, and how it starts.
 use names::Order;
 use position::Position;
-use settings::Settings;
+use table::Table;
 use unit::Memory;
 use unit::Notes;
 ghost use mathlib.Core.List.{[]};
@@ -11,7 +11,8 @@ ghost use Rattle.rule.specs.Rule.{stateAt};
 ghost use Rattle.sheet.specs.Lengths.{longestFrame};
 ghost use Rattle.unit.specs.Protocol.{freshState};
 ghost use Rattle.state.specs.State.{boardOf};
-ghost use Rattle.state.specs.Sound.{wantedBy, verdictOf};
+ghost use Rattle.state.specs.Parts.{boardAt, restOf};
+ghost use Rattle.state.specs.Sound.{wantedBy, verdictOf, verdictAt};
 
 // The bytes of the unfinished unit stand in front of held, and count tells how many.
 #[repr(C)]
@@ -22,9 +23,26 @@ pub struct Board {
     pub stamp: u32,
 }
 
-// What a call answers.
+// A board but for its two arrays: what is handed over by value where those are lent.
+#[repr(C)]
+pub struct Rest {
+    pub notes: Notes,
+    pub position: Position,
+    pub count: usize,
+    pub stamp: u32,
+}
+
+// What a call answers; and what it answers where the arrays are lent.
 pub struct Call {
     pub board: Board,
+    pub taken: usize,
+    pub written: usize,
+    pub number: u8,
+    pub order: Order,
+}
+
+pub struct Done {
+    pub rest: Rest,
     pub taken: usize,
     pub written: usize,
     pub number: u8,
@@ -46,7 +64,7 @@ pub struct Verdict {
 }
 
 // How long the unit is that n bytes in held begin; 0 where they are neither none nor a true beginning of one unit.
-fn wanted(held: &[u8; sheet::FRAME], n: usize) -> usize
+fn wanted(held: &[u8], n: usize) -> usize
     requires { ⌜ length (now held) ≡ longestFrame ⌝ }
     ensures { λ r. ⌜ r ≡ wantedBy (take n (now (held .entry))) ⌝ }
 {
@@ -70,20 +88,53 @@ fn wanted(held: &[u8; sheet::FRAME], n: usize) -> usize
     span
 }
 
-// 01's list of what a sound state is.
-pub fn judge(board: Board) -> Verdict
-    ensures { λ r. ⌜ r ≡ verdictOf board ⌝ }
+// A board in parts, and put together.
+pub fn rest_of(board: Board) -> Rest
+    ensures { λ r. ⌜ r ≡ restOf board ⌝ }
 {
-    let n = board.count;
-    let wants = wanted(&board.held, n);
-    if wants != 0 {
-        if board.memory.notes.flags <= 7 {
-            let memory = board.memory;
-            let position = memory.position;
-            if position.first_bad() == 0 {
-                let settings = memory.settings;
-                if settings.all_good() {
-                    return Verdict { number: 0, wants };
+    let memory = board.memory;
+    let notes = memory.notes;
+    let position = memory.position;
+    Rest {
+        notes,
+        position,
+        count: board.count,
+        stamp: board.stamp,
+    }
+}
+
+pub fn joined(table: [u8; table::SIZE], held: [u8; sheet::FRAME], rest: Rest) -> Board
+    ensures { λ r. ⌜ r ≡ boardAt table held rest ⌝ }
+{
+    let notes = rest.notes;
+    let position = rest.position;
+    let settings = Table { bytes: table };
+    let memory = Memory {
+        settings,
+        notes,
+        position,
+    };
+    Board {
+        memory,
+        held,
+        count: rest.count,
+        stamp: rest.stamp,
+    }
+}
+
+// 01's list of what a sound state is, of a board in parts.
+pub fn judge_parts(table: &[u8; table::SIZE], held: &[u8], rest: Rest) -> Verdict
+    ensures { λ r. ⌜ r ≡ verdictAt (now (table .entry)) (now (held .entry)) rest ⌝ }
+{
+    if held.len() == sheet::FRAME {
+        let wants = wanted(held, rest.count);
+        if wants != 0 {
+            if rest.notes.flags <= 7 {
+                let position = rest.position;
+                if position.first_bad() == 0 {
+                    if table::is_sound(table) {
+                        return Verdict { number: 0, wants };
+                    }
                 }
             }
         }
@@ -92,6 +143,16 @@ pub fn judge(board: Board) -> Verdict
         number: 3,
         wants: 0,
     }
+}
+
+pub fn judge(board: Board) -> Verdict
+    ensures { λ r. ⌜ r ≡ verdictOf board ⌝ }
+{
+    let memory = board.memory;
+    let settings = memory.settings;
+    let table = settings.bytes;
+    let held = board.held;
+    judge_parts(&table, &held, rest_of(board))
 }
 
 // A board with nothing unfinished.
@@ -116,7 +177,7 @@ pub fn fresh() -> Board
         field: 0,
     };
     let memory = Memory {
-        settings: Settings::fresh(),
+        settings: Table::fresh(),
         notes,
         position: Position::fresh(),
     };

@@ -9,6 +9,8 @@ use Rattle.wire.specs.Layout.{laid}
 use Rattle.ranges.specs.Tests.{within, signedWithin, onlyBits, firstFalse}
 use Rattle.frame.specs.Frame.{intact}
 use Rattle.sheet.specs.Rows.{least}
+use Rattle.sheet.specs.Sections.{badIn}
+use Rattle.table.specs.Places.{sectionIn, putIn, freshIn}
 use Rattle.position.specs.declared.Position.{Position}
 use Rattle.rule.specs.Run.{Item, wait, late, onward, lastStamp}
 use Rattle.rule.specs.Framing.{front, units}
@@ -21,15 +23,15 @@ use Rattle.names.specs.declared.Order.{Order}
 use Rattle.unit.specs.Cases.{Case, travel, Each, none, row, cases, reports, travels}
 
 pub starred : Each cases
-unfolding crcBit crcBits crcByte crcFrom leAt leBytes laid within onlyBits firstFalse least valueIn positionKind kindOf kindFrom need intact gets checked puts does act
-    wait late onward lastStamp front units deal wholeRun
+unfolding crcBit crcBits crcByte crcFrom leAt leBytes laid within onlyBits firstFalse least badIn sectionIn putIn freshIn valueIn positionKind kindOf kindFrom need intact gets
+    checked puts does act wait late onward lastStamp front units deal wholeRun
 starred =
     row refl (row refl (row refl (row refl (row refl
     (row refl (row refl (row refl (row refl (row refl (row refl (row refl (row refl none))))))))))))
 
 pub reports-hold : Each reports
-unfolding crcBit crcBits crcByte crcFrom leAt leBytes laid within onlyBits firstFalse least valueIn positionKind kindOf kindFrom need intact gets checked puts does act
-    wait late onward lastStamp front units deal wholeRun
+unfolding crcBit crcBits crcByte crcFrom leAt leBytes laid within onlyBits firstFalse least badIn sectionIn putIn freshIn valueIn positionKind kindOf kindFrom need intact gets
+    checked puts does act wait late onward lastStamp front units deal wholeRun
 reports-hold = row refl (row refl (row refl (row refl (row refl (row refl (row refl (row refl none)))))))
 
 -- a row of travel: its reply, its orders, and where it ends

@@ -9,10 +9,11 @@ use Rattle.frame.specs.Frame.{framed}
 use Rattle.sheet.specs.Lengths.{longestFrame}
 use Rattle.sheet.specs.Sheet.{getTable, gposRow}
 use Rattle.sheet.specs.Rows.{rowAt, total, dataOf}
-use Rattle.sheet.proofs.Laws.{aside-fits, aside-front}
+use Rattle.sheet.proofs.Laws.{aside-fits, aside-front, data-length as sent-length}
 use Rattle.sheet.proofs.Table.{total-most}
 use Rattle.position.specs.Position.{positionNumbers}
-use Rattle.settings.specs.Settings.{dataAt, numbersAt}
+use Rattle.table.specs.Table.{dataAt}
+use Rattle.table.proofs.Keep.{data-length}
 use Rattle.names.specs.Names.{totalIn}
 use Rattle.names.specs.declared.Order.the-variants.{Nothing}
 use Rattle.names.proofs.Lengths.{get-total}
@@ -27,7 +28,7 @@ module _ (m : Memory) (k n : ℕ) (looked : n ≡ totalIn getTable k) (zs sectio
   is = looked ∙ get-total k
 
   pub section-room : n - 6 ≤ length section
-  section-room = aside-fits (rowAt k) (numbersAt (m .settings) k) n is (total-most k) zs section room laid
+  section-room = aside-fits (rowAt k) (dataAt (m .settings) k) (data-length (m .settings) k) n is (total-most k) zs section room laid
 
   pub says-got : (name : ℕ) (before after : List ℕ) → after ≡ sets before 0 (framed name (take (n - 6) section))
       → Judges (gets m name k) before (record { order = Nothing; memory = m }) after
@@ -38,7 +39,7 @@ module _ (m : Memory) (k n : ℕ) (looked : n ≡ totalIn getTable k) (zs sectio
         reply =
             e
             ∙ ap (λ (d : List ℕ). sets before 0 (framed name d))
-            (aside-front (rowAt k) (numbersAt (m .settings) k) n is (total-most k) zs section room laid);
+            (aside-front (rowAt k) (dataAt (m .settings) k) (data-length (m .settings) k) n is (total-most k) zs section room laid);
       }
 
 -- ---- gpos: its frame is no longer than any
@@ -49,7 +50,7 @@ position-most = omega arith
 module _ (m : Memory) (zs section : List ℕ) (room : longestFrame ≡ length zs)
     (laid : section ≡ sets zs 0 (dataOf gposRow (positionNumbers (m .position)))) where
   pub position-room : 20 ≤ length section
-  position-room = aside-fits gposRow (positionNumbers (m .position)) 26 refl position-most zs section room laid
+  position-room = aside-fits gposRow (dataOf gposRow (positionNumbers (m .position))) (sent-length gposRow (positionNumbers (m .position))) 26 refl position-most zs section room laid
 
   pub says-found : (name : ℕ) (before after : List ℕ) → after ≡ sets before 0 (framed name (take 20 section))
       → Judges (finds m name) before (record { order = Nothing; memory = m }) after
@@ -60,5 +61,5 @@ module _ (m : Memory) (zs section : List ℕ) (room : longestFrame ≡ length zs
         reply =
             e
             ∙ ap (λ (d : List ℕ). sets before 0 (framed name d))
-            (aside-front gposRow (positionNumbers (m .position)) 26 refl position-most zs section room laid);
+            (aside-front gposRow (dataOf gposRow (positionNumbers (m .position))) (sent-length gposRow (positionNumbers (m .position))) 26 refl position-most zs section room laid);
       }

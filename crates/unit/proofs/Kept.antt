@@ -10,8 +10,10 @@ use Rattle.wire.specs.Numbers.{leBytes}
 use Rattle.frame.specs.Frame.{dataIn, intact}
 use Rattle.keyed.proofs.Values.{value-all}
 use Rattle.sheet.specs.Sheet.{setTable}
-use Rattle.settings.specs.Settings.{dataAt, putAt, badAt}
-use Rattle.settings.proofs.Keep.{get-other}
+use Rattle.sheet.specs.Rows.{rowAt}
+use Rattle.sheet.specs.Sections.{badIn}
+use Rattle.table.specs.Table.{dataAt}
+use Rattle.table.proofs.Keep.{get-other}
 use Rattle.rule.specs.Framing.{Token, whole, lost, seen}
 use Rattle.rule.specs.Rule.{Said, deal}
 use Rattle.names.specs.Names.{kindAt, nameIn, numbersOf, namesOf}
@@ -64,9 +66,9 @@ module _ (m : Memory) (u : List ℕ) where
 
   set-ends : (k : ℕ) → kindAt u ≡ Set k → SetEnds k
   unfolding does puts
-  set-ends k e = by (intact u) (eqb (badAt (putAt (m .settings) k (dataIn u)) k) 0) refl refl
+  set-ends k e = by (intact u) (eqb (badIn (rowAt k) (dataIn u)) 0) refl refl
     where
-      by : (b c : Bool) → intact u ≡ b → eqb (badAt (putAt (m .settings) k (dataIn u)) k) 0 ≡ c → SetEnds k
+      by : (b c : Bool) → intact u ≡ b → eqb (badIn (rowAt k) (dataIn u)) 0 ≡ c → SetEnds k
       by true true i g = accepts (record { kind = e; crc = i; good = eqb-true _ 0 g })
       by true false i g =
           let said = act-kind m u (Set k) e ∙ checked-refused m u k _ _ i (eqb-false _ 0 g) in

@@ -10,3 +10,4 @@ pub mod Events
 pub mod Touched
 pub mod Cases
 pub mod One
+pub mod Old

@@ -2,7 +2,7 @@
 use mathlib.Core.Path.{_≡_, refl, sym, ap, _∙_}
 use mathlib.Core.Bool.{Bool, true, false, cond}
 use mathlib.Core.List.{List, [], _∷_}
-use Prim.Native.Nat.{ℕ, _≤_}
+use Prim.Native.Nat.{ℕ, _-_, _≤_}
 use native.Mathlib.Omega.{arith}
 use lib.Dec.{eqb}
 use lib.ListN.{length}
@@ -16,7 +16,8 @@ use Rattle.sheet.specs.Rows.{rowAt, total, dataOf}
 use Rattle.sheet.proofs.Laws.{data-length}
 use Rattle.position.specs.Position.{positionNumbers}
 use Rattle.position.specs.declared.Travel.{Travel}
-use Rattle.settings.specs.Settings.{numbersAt}
+use Rattle.table.specs.Table.{dataAt}
+use Rattle.table.proofs.Keep.{data-length as held-length}
 use Rattle.rule.specs.Run.{byte}
 use Rattle.rule.specs.Framing.{whole}
 use Rattle.rule.specs.Rule.{Said, State}
@@ -43,8 +44,8 @@ act-kind m u κ e = ap (does m u) e
 -- ---- how long a reply is
 
 -- "the get name, data, CRC" is as long as the set
-get-length : (r : Row) (ns : List ℕ) (name : ℕ) → length (framed name (dataOf r ns)) ≡ total r
-get-length r ns name = omega (arith, frame-length name (dataOf r ns), data-length r ns)
+get-length : (r : Row) (d : List ℕ) (name : ℕ) → length d ≡ total r - 6 → length (framed name d) ≡ total r
+get-length r d name e = omega (arith, frame-length name d)
 
 -- an echo or a refusal is four letters
 set-length : (m : Memory) (u : List ℕ) (k bad : ℕ) (done : Said Order Memory) → length (done .reply) ≡ 4 → length (checked m u k bad done .reply) ≡ 4
@@ -55,11 +56,11 @@ pub does-length : (m : Memory) (u : List ℕ) (k : Kind) → length (does m u k 
 unfolding does puts gets moves places finds
 does-length m u Zero = refl
 does-length m u (Set k) = set-length m u _ _ _ (length-leBytes 4 (nameOf u))
-does-length m u (Get k) = get-length (rowAt k) (numbersAt (m .settings) k) (nameOf u) ∙ sym (get-total k)
+does-length m u (Get k) = get-length (rowAt k) (dataAt (m .settings) k) (nameOf u) (held-length (m .settings) k) ∙ sym (get-total k)
 does-length m u (Gives o) = length-leBytes 4 (nameOf u)
 does-length m u (Moves k) = set-length m u _ _ _ (length-leBytes 4 (nameOf u))
 does-length m u Places = set-length m u _ _ _ (length-leBytes 4 (nameOf u))
-does-length m u Finds = get-length gposRow (positionNumbers (m .position)) (nameOf u)
+does-length m u Finds = get-length gposRow (dataOf gposRow (positionNumbers (m .position))) (nameOf u) (data-length gposRow (positionNumbers (m .position)))
 does-length m u Clears = length-leBytes 4 (nameOf u)
 does-length m u Unknown = length-leBytes 4 (named "errc")
 

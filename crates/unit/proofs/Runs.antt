@@ -1,19 +1,19 @@
 -- A get sends what the last accepted set of its block brought, in a whole run too. Assumes nothing.
 use mathlib.Core.Path.{_≡_, sym, ap, _∙_}
 use mathlib.Core.List.{List, [], _∷_, _++_, append-assoc}
-use Prim.Native.Nat.{ℕ, _-_, _<_, _≤_}
+use Prim.Native.Nat.{ℕ, _≤_}
 use native.Mathlib.Omega.{arith}
-use lib.ListN.{length, getD, length-take, length-drop}
+use lib.ListN.{length, length-take, length-drop}
 use Rattle.wire.specs.Layout.{sum}
 use Rattle.frame.specs.Frame.{dataIn}
 use Rattle.sheet.specs.Rows.{rowAt, widths, total, canonical}
-use Rattle.settings.specs.Settings.{dataAt}
-use Rattle.settings.proofs.Keep.{get-same, bad-put}
-use Rattle.rule.specs.Run.{Item, bytes}
+use Rattle.table.specs.Table.{dataAt}
+use Rattle.table.proofs.Keep.{get-same}
+use Rattle.rule.specs.Run.{Item}
 use Rattle.rule.specs.Framing.{Token, whole, unitsOf}
 use Rattle.rule.specs.Rule.{Said, deal, wholeRun}
 use Rattle.rule.proofs.Said.{deal-append}
-use Rattle.rule.proofs.Whole.{part-bytes, whole-long, whole-bytes}
+use Rattle.rule.proofs.Whole.{whole-long}
 use Rattle.names.specs.Names.{kindAt, span, need}
 use Rattle.names.specs.declared.Order.{Order}
 use Rattle.names.specs.declared.Kind.the-variants.{Get}
@@ -38,25 +38,24 @@ got m g k e = act-kind m g (Get k) e ∙ ap (λ (n : ℕ). gets m n k) (get-unit
 -- ---- DEMAND 2: "After an accepted set, the get of that block returns the same fields, reserved bytes zero, until the next accepted set of that block"
 
 -- what an accepted set leaves in its block, and what is there until the next one
-pub set-leaves : (m : Memory) (u : List ℕ) (k : ℕ) → ((i : ℕ) → getD u i 0 < 256) → length u ≡ total (rowAt k) → Accepts m u k
+pub set-leaves : (m : Memory) (u : List ℕ) (k : ℕ) → length u ≡ total (rowAt k) → Accepts m u k
     → dataAt (act m (whole u) .next .settings) k ≡ canonical (rowAt k) (dataIn u)
-set-leaves m u k b l a =
-    let low = part-bytes u (length u - 6) 4 b in
+set-leaves m u k l a =
     let long : sum (widths (rowAt k)) ≤ length (dataIn u) = simp (length-take, length-drop) (omega arith) in
     ap (λ (x : Said Order Memory). dataAt (x .next .settings) k) (accepted m u k a)
-    ∙ get-same (m .settings) k (dataIn u) low long (sym (bad-put (m .settings) k (dataIn u) low) ∙ a .good)
+    ∙ get-same (m .settings) k (dataIn u) long
 
-pub held-after-set : (m : Memory) (u : List ℕ) (k : ℕ) (ks : List (Token Event)) → ((i : ℕ) → getD u i 0 < 256) → length u ≡ total (rowAt k)
+pub held-after-set : (m : Memory) (u : List ℕ) (k : ℕ) (ks : List (Token Event)) → length u ≡ total (rowAt k)
     → Accepts m u k → Without k (act m (whole u) .next) ks
     → dataAt (deal protocol (act m (whole u) .next) ks .next .settings) k ≡ canonical (rowAt k) (dataIn u)
-held-after-set m u k ks b l a w = kept k ks (act m (whole u) .next) w ∙ set-leaves m u k b l a
+held-after-set m u k ks l a w = kept k ks (act m (whole u) .next) w ∙ set-leaves m u k l a
 
-pub get-after-set : (m : Memory) (u : List ℕ) (k : ℕ) (ks : List (Token Event)) (g : List ℕ) → ((i : ℕ) → getD u i 0 < 256) → length u ≡ total (rowAt k)
+pub get-after-set : (m : Memory) (u : List ℕ) (k : ℕ) (ks : List (Token Event)) (g : List ℕ) → length u ≡ total (rowAt k)
     → Accepts m u k → Without k (act m (whole u) .next) ks → kindAt g ≡ Get k
     → act (deal protocol (act m (whole u) .next) ks .next) (whole g) .reply ≡ getReply k (canonical (rowAt k) (dataIn u))
-get-after-set m u k ks g b l a w e =
+get-after-set m u k ks g l a w e =
     ap (λ (x : Said Order Memory). x .reply) (got (deal protocol (act m (whole u) .next) ks .next) g k e)
-    ∙ ap (getReply k) (held-after-set m u k ks b l a w)
+    ∙ ap (getReply k) (held-after-set m u k ks l a w)
 
 -- ---- the same over a whole run
 
@@ -76,22 +75,20 @@ run-got m₀ t r before after g k cut e =
 accepts-long : (m : Memory) (u : List ℕ) (k : ℕ) → Accepts m u k → need u ≡ length u → length u ≡ total (rowAt k)
 accepts-long m u k a e = sym e ∙ need-kind u (omega arith) ∙ ap span (a .kind) ∙ set-total k
 
--- in a run of bytes: the set u, which was echoed, then the get g of its block with no echoed set of the block between them
+-- in a run: the set u, which was echoed, then the get g of its block with no echoed set of the block between them
 pub run-get-after-set : (m₀ : Memory) (t : ℕ) (r : List (Item Event)) (before between after : List (Token Event)) (u g : List ℕ) (k : ℕ)
-    → ((i : ℕ) → getD (bytes r) i 0 < 256)
     → unitsOf (protocol .cuts) (protocol .need) r .tokens ≡ before ++ (whole u ∷ between ++ (whole g ∷ after))
     → let m = deal protocol m₀ before .next in Echoed m u k → Without k (act m (whole u) .next) between
     → kindAt g ≡ Get k
     → let x = deal protocol m₀ (before ++ (whole u ∷ between)) in
     wholeRun protocol m₀ t r .reply ≡ x .reply ++ (getReply k (canonical (rowAt k) (dataIn u)) ++ deal protocol (x .next) after .reply)
 unfolding deal
-run-get-after-set m₀ t r before between after u g k b cut h w e =
+run-get-after-set m₀ t r before between after u g k cut h w e =
     let m = deal protocol m₀ before .next in
     let a = echoed m u k h in
     let x = deal protocol m₀ (before ++ (whole u ∷ between)) in
     let behind = between ++ (whole g ∷ after) in
-    let low = whole-bytes (protocol .cuts) (protocol .need) need-law r before behind u cut b in
     let long = accepts-long m u k a (whole-long (protocol .cuts) (protocol .need) need-law r before behind u cut) in
     let reached = ap (λ (y : Said Order Memory). dataAt (y .next .settings) k) (deal-append protocol before (whole u ∷ between) m₀) in
     run-got m₀ t r (before ++ (whole u ∷ between)) after g k (cut ∙ sym (append-assoc before (whole u ∷ between) (whole g ∷ after))) e
-    ∙ ap (λ (d : List ℕ). x .reply ++ (getReply k d ++ deal protocol (x .next) after .reply)) (reached ∙ held-after-set m u k between low long a w)
+    ∙ ap (λ (d : List ℕ). x .reply ++ (getReply k d ++ deal protocol (x .next) after .reply)) (reached ∙ held-after-set m u k between long a w)

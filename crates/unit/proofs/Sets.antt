@@ -11,13 +11,17 @@ use Rattle.frame.specs.Frame.{dataIn, intact}
 use Rattle.rule.specs.Rule.{Said}
 use Rattle.rule.proofs.Choice.{eitherBy, either}
 use Rattle.names.specs.declared.Order.{Order}
-use Rattle.unit.specs.Unit.{checked, damaged, outOfRange, Judges}
+use Rattle.unit.specs.Unit.{checked, damaged, outOfRange, Outcome, outcomeAt, Judges}
 use Rattle.unit.specs.declared.Memory.{Memory}
 use Rattle.unit.specs.declared.Judged.{Judged}
 
 -- an answer that is another's
-pub answered-as : {a : Said Order Memory} {before after : List ℕ} {d e : Judged} → d ≡ e → Judges a before e after → Judges a before d after
+pub answered-as : {a : Said Order Memory} {before after : List ℕ} {d e : Outcome} → d ≡ e → Judges a before e after → Judges a before d after
 answered-as p j = record { result = p ∙ j .result; reply = j .reply }
+
+-- one outcome is of one answer
+pub judged-as : {t u : List ℕ} {d e : Judged} → outcomeAt t d ≡ outcomeAt u e → d ≡ e
+judged-as p = λ i. record { order = p i .order; slate = record { notes = p i .memory .notes; position = p i .memory .position } }
 
 -- the part of a unit that the code hands on is its data section
 pub section-is : (u : List ℕ) → take (length u - 2 - 4) (drop 4 u) ≡ dataIn u
@@ -42,7 +46,7 @@ module _ (m : Memory) (u : List ℕ) (k bad : ℕ) (done : Said Order Memory) wh
   checked-cases P wrong out good = either P (intact u) _ _ (eitherBy P (eqb bad 0) _ _ (λ e. good (eqb-true bad 0 e)) (λ _. out)) wrong
 
   -- the code's three answers
-  module _ {before after : List ℕ} {d : Judged} where
+  module _ {before after : List ℕ} {d : Outcome} where
     pub says-damaged : intact u ≡ false → Judges (damaged m) before d after → Judges (checked m u k bad done) before d after
     says-damaged e j = subst (λ (a : Said Order Memory). Judges a before d after) (sym (checked-damaged e)) j
 

@@ -6,7 +6,7 @@ use Prim.Native.Nat.{ℕ}
 use lib.Dec.{eqb}
 use Rattle.frame.specs.Frame.{intact}
 use Rattle.position.specs.declared.Position.{Position}
-use Rattle.settings.specs.declared.Settings.{Settings}
+use Rattle.table.specs.declared.Table.{Table}
 use Rattle.rule.specs.Framing.{Token, whole, lost, seen}
 use Rattle.rule.specs.Rule.{Said, deal}
 use Rattle.names.specs.Names.{kindAt}
@@ -18,7 +18,7 @@ use Rattle.unit.specs.Protocol.{protocol}
 use Rattle.unit.specs.declared.Memory.{Memory}
 use Rattle.unit.specs.declared.Notes.{Notes}
 
-module _ (s : Settings) (p q : Notes) (x y : Position) where
+module _ (s : Table) (p q : Notes) (x y : Position) where
   -- two memories that have the settings alone in common
   abbrev one : Memory
   one = record { settings = s; notes = p; position = x }
@@ -63,5 +63,5 @@ unfolding deal
 settings-alone [] m n e = e
 settings-alone (x ∷ ks) m n e =
     settings-alone ks (act m x .next) (act n x .next)
-    (ap (λ (s : Settings). act (record { settings = s; notes = m .notes; position = m .position }) x .next .settings) e
+    (ap (λ (s : Table). act (record { settings = s; notes = m .notes; position = m .position }) x .next .settings) e
     ∙ act-settings (n .settings) (m .notes) (n .notes) (m .position) (n .position) x)

@@ -1,21 +1,20 @@
 -- "A fresh board is sound and each call keeps it so": what one unit does to a sound memory, and one call to a sound state. Assumes nothing.
-use mathlib.Core.Path.{_≡_, refl, sym, ap, _∙_, subst}
+use mathlib.Core.Path.{_≡_, refl, sym, subst}
 use mathlib.Core.Bool.{Bool, true, false, cond}
 use mathlib.Core.List.{List, []}
 use Prim.Native.Nat.{ℕ, _≤_, _<_}
 use native.Mathlib.Omega.{arith}
 use lib.Bits.{bitOr, or-lt}
-use lib.Dec.{T, eqb, leb}
+use lib.Dec.{T, leb}
 use lib.ListN.{length, take}
-use borrow.Author.Tests.{lt-ltb, le-leb, ltb-true, leb-true, eqb-true, eqb-false}
+use borrow.Author.Tests.{lt-ltb, le-leb, ltb-true, leb-true}
 use Rattle.frame.specs.Frame.{dataIn}
 use Rattle.sheet.specs.Sheet.{sposRow}
-use Rattle.sheet.specs.Rows.{rowAt, numbersIn, firstBad}
+use Rattle.sheet.specs.Rows.{numbersIn}
 use Rattle.position.specs.Position.{soundPosition, sposOf}
 use Rattle.position.proofs.Placed.{fresh-sound as position-fresh, cleared-sound, placed-sound}
-use Rattle.settings.specs.declared.Settings.{Settings}
-use Rattle.settings.specs.Settings.{putAt, badAt, Good, allGood}
-use Rattle.settings.proofs.Keep.{store-other, all-good, good-all, good-fresh}
+use Rattle.table.specs.Table.{Good, allGood}
+use Rattle.table.proofs.Keep.{all-good, good-all, good-put, good-fresh}
 use Rattle.rule.specs.Run.{at}
 use Rattle.rule.specs.Framing.{begun, Token, whole, lost, seen}
 use Rattle.rule.specs.Facts.{TokenOf}
@@ -40,7 +39,8 @@ both : (a b : Bool) → cond a b false ≡ true → (a ≡ true) × (b ≡ true)
 both true b h = (refl, h)
 both false b h = absurd (subst T (sym h) tt)
 
--- "every field lies in its range, the floats are finite, and the flags are at most 7"; "the position's microsteps lie in -255..255" (02, P5)
+-- "every field lies in its range, the floats are finite, and the flags are at most 7"; "the position's microsteps lie in -255..255" (02, P5);
+-- "reserved bytes zero in a sound state" (02, P10)
 pub record SoundMemory (m : Memory) : Type 0 where
   pub flags : m .notes .flags ≤ 7
   pub position : soundPosition (m .position) ≡ true
@@ -85,14 +85,6 @@ module _ (s : State Memory) where
 flags-most : (f bit : ℕ) → f ≤ 7 → bit ≤ 7 → bitOr f bit ≤ 7
 flags-most f bit h k = omega (arith, or-lt 3 f bit (omega arith) (omega arith))
 
--- block k is in its ranges once they were tested, the other blocks are as they were
-good-stored : (s : Settings) (k : ℕ) (d : List ℕ) → badAt (putAt s k d) k ≡ 0 → Good s → Good (putAt s k d)
-good-stored s k d z g j = by (eqb j k) refl
-  where
-    by : (y : Bool) → eqb j k ≡ y → badAt (putAt s k d) j ≡ 0
-    by true e = subst (λ (n : ℕ). badAt (putAt s k d) n ≡ 0) (sym (eqb-true j k e)) z
-    by false e = ap (firstBad (rowAt j)) (store-other s j k (numbersIn (rowAt k) d) (eqb-false j k e)) ∙ g j
-
 module _ (m : Memory) (sound : SoundMemory m) where
   abbrev Keeps : Said Order Memory → Type 0
   Keeps a = SoundMemory (a .next)
@@ -110,7 +102,7 @@ module _ (m : Memory) (sound : SoundMemory m) where
   unfolding does puts gets moves places finds
   does-sound u Zero = sound
   does-sound u (Set k) =
-      set-sound u _ _ _ (λ z. record { flags = sound .flags; position = sound .position; good = good-stored (m .settings) k _ z (sound .good) })
+      set-sound u _ _ _ (λ z. record { flags = sound .flags; position = sound .position; good = good-put (m .settings) k _ z (sound .good) })
   does-sound u (Get k) = sound
   does-sound u (Gives o) = sound
   does-sound u (Moves k) = set-sound u _ _ _ (λ _. sound)

@@ -10,7 +10,7 @@ use Rattle.wire.specs.Letters.{ascii}
 use Rattle.position.specs.Position.{freshPosition}
 use Rattle.position.specs.declared.Travel.{Travel}
 use Rattle.position.specs.declared.Position.{Position}
-use Rattle.settings.specs.Settings.{numbersAt}
+use Rattle.table.specs.Table.{numbersAt}
 use Rattle.rule.specs.Run.{Item, event, at}
 use Rattle.rule.specs.Rule.{wholeRun}
 use Rattle.names.specs.Names.{orderNumber}

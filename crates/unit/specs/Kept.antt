@@ -8,7 +8,8 @@ use Rattle.ranges.specs.Tests.{bit}
 use Rattle.frame.specs.Frame.{framed, dataIn, intact}
 use Rattle.sheet.specs.Names.{named}
 use Rattle.sheet.specs.Sheet.{setTable, getTable}
-use Rattle.settings.specs.Settings.{putAt, badAt}
+use Rattle.sheet.specs.Rows.{rowAt}
+use Rattle.sheet.specs.Sections.{badIn}
 use Rattle.rule.specs.Framing.{Token, whole, lost, seen}
 use Rattle.names.specs.Names.{kindAt, nameIn}
 use Rattle.names.specs.declared.Kind.the-variants.{Set}
@@ -25,7 +26,7 @@ pub data Refused (reply : List ℕ) : Type 0 where
 pub record Accepts (m : Memory) (u : List ℕ) (k : ℕ) : Type 0 where
   pub kind : kindAt u ≡ Set k
   pub crc : intact u ≡ true
-  pub good : badAt (putAt (m .settings) k (dataIn u)) k ≡ 0
+  pub good : badIn (rowAt k) (dataIn u) ≡ 0
 
 -- what the unit u, met with the memory m, does to the settings: it is an accepted set, or it alters none
 pub data Ends (m : Memory) (u : List ℕ) : Type 0 where

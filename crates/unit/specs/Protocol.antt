@@ -4,7 +4,7 @@ use mathlib.Core.List.{[]}
 use Prim.Native.Nat.{ℕ}
 use lib.Dec.{leb}
 use Rattle.position.specs.Position.{soundPosition}
-use Rattle.settings.specs.Settings.{allGood}
+use Rattle.table.specs.Table.{allGood}
 use Rattle.rule.specs.Run.{late}
 use Rattle.rule.specs.Framing.{begun}
 use Rattle.rule.specs.Rule.{State, Protocol}

@@ -10,11 +10,12 @@ use Rattle.wire.specs.Numbers.{leBytes}
 use Rattle.frame.specs.Frame.{framed, dataIn, intact}
 use Rattle.sheet.specs.Names.{named}
 use Rattle.sheet.specs.Sheet.{moveRow, sposRow, gposRow}
-use Rattle.sheet.specs.Rows.{numbersIn, dataOf, firstBad}
+use Rattle.sheet.specs.Rows.{rowAt, numbersIn, dataOf, firstBad}
+use Rattle.sheet.specs.Sections.{badIn}
 use Rattle.position.specs.Position.{travelOf, travelNumbers, sposOf, sposNumbers, positionNumbers, freshPosition, cleared, placed}
 use Rattle.position.specs.declared.Travel.{Travel}
 use Rattle.position.specs.declared.Position.{Position}
-use Rattle.settings.specs.Settings.{dataAt, putAt, badAt, freshSettings}
+use Rattle.table.specs.Table.{dataAt, putAt, freshTable}
 use Rattle.rule.specs.Framing.{Token, whole, lost, seen}
 use Rattle.rule.specs.Rule.{Said, quiet}
 use Rattle.names.specs.Names.{kindAt, nameOf}
@@ -23,11 +24,12 @@ use Rattle.names.specs.declared.Order.the-variants.{Nothing, Move, Movr}
 use Rattle.names.specs.declared.Kind.{Kind}
 use Rattle.names.specs.declared.Kind.the-variants.{Zero, Set, Get, Gives, Moves, Places, Finds, Clears, Unknown}
 use Rattle.unit.specs.declared.Memory.{Memory}
+use Rattle.unit.specs.declared.Slate.{Slate}
 use Rattle.unit.specs.declared.Judged.{Judged}
 
 -- "Flags are clear, .. the last refused field is block 0 field 0."; "the position, 0 when fresh" (02, P5)
 abbrev pub freshMemory : Memory
-freshMemory = record { settings = freshSettings; notes = record { flags = 0; block = 0; field = 0 }; position = freshPosition }
+freshMemory = record { settings = freshTable; notes = record { flags = 0; block = 0; field = 0 }; position = freshPosition }
 
 -- what comes in besides bytes: "The main loop may report the time at any moment, as an event of its own." (02, P3); "The drive reports its position in
 -- a call of its own, which joins demand 3's run as an event" (02, P5)
@@ -91,10 +93,9 @@ abbrev pub stored : Memory → ℕ → ℕ → List ℕ → Said Order Memory
 stored m name k d =
     record { reply = leBytes 4 name; orders = []; next = record { settings = putAt (m .settings) k d; notes = m .notes; position = m .position } }
 
--- a set of a block that the board keeps: the fields tested are those of the block as it would be stored (of bytes, the same as the numbers that came:
--- settings, `bad-put`)
+-- a set of a block that the board keeps
 unfoldable pub puts : Memory → ℕ → List ℕ → Said Order Memory
-puts m k u = checked m u k (badAt (putAt (m .settings) k (dataIn u)) k) (stored m (nameOf u) k (dataIn u))
+puts m k u = checked m u k (badIn (rowAt k) (dataIn u)) (stored m (nameOf u) k (dataIn u))
 
 -- ---- positions and travel; in quotation marks: 02, P5
 
@@ -153,7 +154,25 @@ abbrev pub orderOf : List Order → Order
 orderOf [] = Nothing
 orderOf (o ∷ os) = o
 
+-- what the code leaves of a unit: the memory is the lent table, which it changes in place, and the slate
+pub record Outcome : Type 0 where
+  pub order : Order
+  pub memory : Memory
+
+abbrev pub memoryAt : List ℕ → Slate → Memory
+memoryAt table s = record { settings = record { bytes = table }; notes = s .notes; position = s .position }
+
+abbrev pub outcomeAt : List ℕ → Judged → Outcome
+outcomeAt table d = record { order = d .order; memory = memoryAt table (d .slate) }
+
+abbrev pub flagSlate : ℕ → Slate → Slate
+flagSlate bit s = record { notes = record { flags = bitOr (s .notes .flags) bit; block = s .notes .block; field = s .notes .field }; position = s .position }
+
 -- order, memory and each byte of the lent buffer are those of a
-pub record Judges (a : Said Order Memory) (before : List ℕ) (d : Judged) (after : List ℕ) : Type 0 where
-  pub result : d ≡ record { order = orderOf (a .orders); memory = a .next }
+pub record Judges (a : Said Order Memory) (before : List ℕ) (o : Outcome) (after : List ℕ) : Type 0 where
+  pub result : o ≡ record { order = orderOf (a .orders); memory = a .next }
   pub reply : after ≡ sets before 0 (a .reply)
+
+-- the same of an answer that leaves the table alone, whatever it holds
+abbrev pub JudgesAny : (Memory → Said Order Memory) → Slate → List ℕ → Judged → List ℕ → Type 0
+JudgesAny says s before d after = (table : List ℕ) → Judges (says (memoryAt table s)) before (outcomeAt table d) after

@@ -1,13 +1,13 @@
 // What a unit meets and leaves: the memory, and the answers that units of several kinds share. What a unit of each kind does, crates travel and act say.
 use names::Order;
 use position::Position;
-use settings::Settings;
+use table::Table;
 ghost use mathlib.Core.Path.{_≡_};
 ghost use lib.Seq.{sets};
 ghost use Rattle.wire.specs.Numbers.{leBytes};
 ghost use Rattle.names.specs.Names.{nameOf};
 ghost use Rattle.names.specs.declared.Order.the-variants.{Nothing};
-ghost use Rattle.unit.specs.Unit.{flag, damaged, outOfRange, Judges};
+ghost use Rattle.unit.specs.Unit.{damaged, outOfRange, flagSlate, JudgesAny};
 
 // The flags, and the last refused block and field. All are words, so that a copy has no gap to move.
 #[repr(C)]
@@ -17,36 +17,42 @@ pub struct Notes {
     pub field: usize,
 }
 
-// All that a unit can change.
+// What a board remembers of the units that have ended, and where the drive stands.
 #[repr(C)]
 pub struct Memory {
-    pub settings: Settings,
+    pub settings: Table,
+    pub notes: Notes,
+    pub position: Position,
+}
+
+// The memory but for its table, which is lent: nothing of it is moved while units are answered.
+pub struct Slate {
     pub notes: Notes,
     pub position: Position,
 }
 
 pub struct Judged {
     pub order: Order,
-    pub memory: Memory,
+    pub slate: Slate,
 }
 
-// No order, and this memory.
-pub fn quiet(memory: Memory) -> Judged
-    ensures { λ r. ⌜ r ≡ record { order = Nothing; memory = memory } ⌝ }
+// No order, and this slate.
+pub fn quiet(slate: Slate) -> Judged
+    ensures { λ r. ⌜ r ≡ record { order = Nothing; slate = slate } ⌝ }
 {
     Judged {
         order: Order::Nothing,
-        memory,
+        slate,
     }
 }
 
-// The memory with a flag set.
-pub fn flagged(memory: Memory, bit: usize) -> Memory
-    ensures { λ r. ⌜ r ≡ flag bit memory ⌝ }
+// The slate with a flag set.
+pub fn flagged(slate: Slate, bit: usize) -> Slate
+    ensures { λ r. ⌜ r ≡ flagSlate bit slate ⌝ }
 {
-    let mut notes = memory.notes;
+    let mut notes = slate.notes;
     notes.flags = notes.flags | bit;
-    let mut next = memory;
+    let mut next = slate;
     next.notes = notes;
     next
 }
@@ -59,23 +65,23 @@ pub fn echo(unit: &[u8], reply: &mut [u8])
 }
 
 // The refusals of a set: a wrong CRC, and a field out of its range.
-pub fn refuse_crc(memory: Memory, reply: &mut [u8]) -> Judged
-    ensures { λ r. ⌜ Judges (damaged memory) (now (reply .entry)) r (now (reply .exit)) ⌝ }
+pub fn refuse_crc(slate: Slate, reply: &mut [u8]) -> Judged
+    ensures { λ r. ⌜ JudgesAny damaged slate (now (reply .entry)) r (now (reply .exit)) ⌝ }
 {
     wire::put(reply, 0, 4, sheet::names::ERRD as u64);
-    quiet(flagged(memory, 2))
+    quiet(flagged(slate, 2))
 }
 
-pub fn refuse_field(memory: Memory, block: usize, field: usize, reply: &mut [u8]) -> Judged
-    ensures { λ r. ⌜ Judges (outOfRange memory block field) (now (reply .entry)) r (now (reply .exit)) ⌝ }
+pub fn refuse_field(slate: Slate, block: usize, field: usize, reply: &mut [u8]) -> Judged
+    ensures { λ r. ⌜ JudgesAny (λ m. outOfRange m block field) slate (now (reply .entry)) r (now (reply .exit)) ⌝ }
 {
     wire::put(reply, 0, 4, sheet::names::ERRV as u64);
     let notes = Notes {
-        flags: memory.notes.flags | 4,
+        flags: slate.notes.flags | 4,
         block,
         field,
     };
-    let mut next = memory;
+    let mut next = slate;
     next.notes = notes;
     quiet(next)
 }

@@ -12,29 +12,40 @@ spans k = k .span-of .ensures ∙ ap span (k .before .kind-of .ensures ∙ ap (k
 
 whole : tie.Need-returns-5
 whole c =
-    let four = c .before .before .before .before .before .before in
+    let four = c .before .before .before .before .before in
     let first = four .before in
     let most = first .before .before in
-    sym (wanted-whole _ _ (most .before .before .pre) (most .before .if1 .left) (most .if2 .left) (first .if3 .left) (four .if4 .left) _
+    sym (wanted-whole _ _ (most .before .before .before .pre) (most .before .if1 .left) (most .if2 .left) (first .if3 .left) (four .if4 .left) _
     (spans (c .before)) (c .if5 .taken))
 
 begun : tie.Need-returns-6
 begun c =
-    let four = c .before .before .before .before .before .before in
+    let four = c .before .before .before .before .before in
     let first = four .before in
     let most = first .before .before in
-    sym (wanted-span _ _ (most .before .before .pre) (most .before .if1 .left) (most .if2 .left) (first .if3 .left) (four .if4 .left) _
+    sym (wanted-span _ _ (most .before .before .before .pre) (most .before .if1 .left) (most .if2 .left) (first .if3 .left) (four .if4 .left) _
     (spans (c .before)) (c .if5 .left))
+
+zero : tie.Need-returns-3
+zero c =
+    let most = c .before .before in
+    sym (wanted-zero _ _ (most .before .before .before .pre) (most .before .if1 .left) (most .if2 .left) (c .if3 .taken))
+
+name : tie.Need-returns-4
+name c =
+    let first = c .before in
+    let most = first .before .before in
+    sym (wanted-name _ _ (most .before .before .before .pre) (most .before .if1 .left) (most .if2 .left) (first .if3 .left) (c .if4 .taken))
 
 pub wanted-spec : {M : Type 1} → statement M
 wanted-spec =
     tie.close
     (tie.spec
-    (λ c. sym (wanted-none _ _ (c .before .pre) (c .if1 .taken)))
-    (λ c. sym (wanted-past _ _ (c .before .before .pre) (c .if2 .taken)))
+    (λ c. sym (wanted-none _ _ (c .before .before .pre) (c .if1 .taken)))
+    (λ c. sym (wanted-past _ _ (c .before .before .before .pre) (c .if2 .taken)))
     (λ c. search needs)
-    (λ c. sym (wanted-zero _ _ (c .before .before .before .before .pre) (c .before .before .before .if1 .left) (c .before .before .if2 .left) (c .if3 .taken)))
-    (λ c. sym (wanted-name _ _ (c .before .before .before .before .before .pre) (c .before .before .before .before .if1 .left) (c .before .before .before .if2 .left) (c .before .if3 .left) (c .if4 .taken)))
+    zero
+    name
     (λ c. search needs)
     (λ c κs. search needs)
     (λ c κs. search needs)

@@ -1,7 +1,9 @@
 //! The library and the second receiver on the same random runs, compared after each call: number, taken, written, order, its travel, every
-//! byte of the buffer, the state. Before some calls the time or the position is reported: number and state are compared. The library's
+//! byte of the buffer, the state. Before some calls the time or the position is reported: number and state are compared. Or the table is
+//! handed out, and at times taken back by a board that goes on: number, every byte of the buffer and the state are compared. The library's
 //! host and the second one write the runs' requests and read every reply, and are compared too: length or refusal, every byte of the
-//! buffer, the answer. The readers also get bytes that no board sends.
+//! buffer, the answer. The readers also get bytes that no board sends, and stored tables are taken back and looked at that no board hands
+//! out.
 //!
 //!     compare [--seed N] [--units N] [--break NAME|all] [--show]
 //!
@@ -14,6 +16,7 @@ mod play;
 mod run;
 mod runs;
 mod shortest;
+mod tables;
 
 use counts::Counts;
 use play::play;
@@ -26,23 +29,24 @@ use std::process::ExitCode;
 /// What the two disagreed on.
 enum Failed {
     Run(Box<Run>),
-    /// A request or a slice, in words.
-    Host(String),
+    /// A request, a slice or a table, in words.
+    Alone(String),
 }
 
 impl From<String> for Failed {
     fn from(text: String) -> Failed {
-        Failed::Host(text)
+        Failed::Alone(text)
     }
 }
 
-/// A random run, and bytes for the readers alone.
+/// A random run, bytes for the readers alone, and a stored table.
 fn round(random: &mut Random, fault: Fault, counts: &mut Counts) -> Result<(), Failed> {
     let run = runs::random_run(random, fault, counts)?;
     if play(&run, fault, counts).is_err() {
         return Err(Failed::Run(Box::new(run)));
     }
-    Ok(hosts::read_alone(random, fault, counts)?)
+    hosts::read_alone(random, fault, counts)?;
+    Ok(tables::stored(random, fault, counts)?)
 }
 
 /// Runs until a disagreement or until so many units are counted.
@@ -65,7 +69,7 @@ fn show(failed: Failed, fault: Fault) {
             run.show();
             println!("  {}", miss.text);
         }
-        Failed::Host(text) => println!("  {text}"),
+        Failed::Alone(text) => println!("  {text}"),
     }
 }
 

@@ -1,10 +1,11 @@
-//! A run on the library and on the second receiver and host, compared after each call and report.
+//! A run on the library and on the second receiver and host, compared after each call, report and restart.
 
 use crate::counts::Counts;
 use crate::hosts::read_reply;
-use crate::run::{hex, Change, Report, Run, Step};
+use crate::run::{hex, Change, Event, Run, Step};
 use crate::runs::WIDEST;
-use rivertosku::board::{Board, Number, Order, Parts, FRAME};
+use crate::tables;
+use rivertosku::board::{Board, Number, Order, Parts, FRAME, TABLE};
 use rivertosku::fault::Fault;
 use rivertosku::position::{Position, Travel};
 use rivertosku::same;
@@ -118,15 +119,36 @@ impl Pair<'_> {
         Ok(())
     }
 
-    /// A step's reports and calls, by turns; what differs.
+    /// The table handed out by both into so much room, if it is; what differs.
+    fn hand_out(&mut self, room: usize) -> Result<Option<Vec<u8>>, String> {
+        let said = same::hand_out(&self.board, &self.second, room, self.fault, self.counts.calls)?;
+        self.counts.hand_out(&said);
+        Ok(said.ok())
+    }
+
+    /// Both start again with the table that they hand out, if they do; what differs.
+    fn restart(&mut self) -> Result<(), String> {
+        if let Some(table) = self.hand_out(TABLE)? {
+            (self.board, self.second) = tables::take_back(&table, self.fault, self.counts)?;
+        }
+        Ok(())
+    }
+
+    fn event(&mut self, event: &Event) -> Result<(), String> {
+        match *event {
+            Event::Clock(wait) => self.report_clock(wait),
+            Event::Position(position) => self.report_position(position),
+            Event::HandOut(room) => self.hand_out(room).map(|_| ()),
+            Event::Restart => self.restart(),
+        }
+    }
+
+    /// A step's events and calls, by turns; what differs.
     fn offer(&mut self, step: &Step) -> Result<(), String> {
         let mut rest = &step.piece[..];
         loop {
-            for report in &step.reports {
-                match *report {
-                    Report::Clock(wait) => self.report_clock(wait)?,
-                    Report::Position(position) => self.report_position(position)?,
-                }
+            for event in &step.events {
+                self.event(event)?;
             }
             let (taken, accepted) = self.call(rest, step.stamp, step.room)?;
             rest = &rest[taken..];

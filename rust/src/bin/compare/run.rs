@@ -1,4 +1,4 @@
-//! A run of the comparison: pieces, reports and states by hand.
+//! A run of the comparison: pieces, reports, restarts and states by hand.
 
 use rivertosku::board::{Parts, FRAME};
 use rivertosku::position::Position;
@@ -15,20 +15,25 @@ pub enum Change {
     Spare(u8),
 }
 
+/// What comes between calls.
 #[derive(Clone, Debug)]
-pub enum Report {
-    /// The time, as the wait since the last byte, whichever that is.
+pub enum Event {
+    /// A report of the time, as the wait since the last byte, whichever that is.
     Clock(u32),
-    /// Where the drive stands.
+    /// A report of where the drive stands.
     Position(Position),
+    /// The table handed out into so much room.
+    HandOut(usize),
+    /// The table handed out and, if it is, taken back by a board that goes on.
+    Restart,
 }
 
 /// A piece, offered until all of it is taken or it is refused.
 #[derive(Clone)]
 pub struct Step {
     pub change: Option<Change>,
-    /// Reports before each of its calls.
-    pub reports: Vec<Report>,
+    /// Before each of its calls.
+    pub events: Vec<Event>,
     pub piece: Vec<u8>,
     pub stamp: u32,
     pub room: usize,
@@ -44,7 +49,7 @@ pub struct Run {
 impl Change {
     pub fn apply(&self, parts: &mut Parts) {
         match self {
-            Change::Data(block, data) => same::put_data(&mut parts.memory.settings, *block, data),
+            Change::Data(block, data) => same::put_data(parts, *block, data),
             Change::Position(position) => parts.memory.position = *position,
             Change::Flags(flags) => parts.memory.notes.flags = *flags,
             Change::Held(bytes, count) => {
@@ -77,8 +82,8 @@ impl Run {
             if let Some(change) = &step.change {
                 println!("  state by hand: {change:?}");
             }
-            if !step.reports.is_empty() {
-                println!("  reports before each call, the time in ms after the last byte: {:?}", step.reports);
+            if !step.events.is_empty() {
+                println!("  before each call, the time in ms after the last byte: {:?}", step.events);
             }
             println!("  stamp {} room {} piece of {} {}", step.stamp, step.room, step.piece.len(), hex(&step.piece));
         }

@@ -2,13 +2,11 @@
 
 use crate::counts::Counts;
 use crate::hosts::requested;
-use crate::run::{Change, Report, Run, Step};
-use rivertosku::board::{Board, Notes, Parts, FRAME, PIECE, ROOM};
+use crate::run::{Change, Event, Run, Step};
+use rivertosku::board::{Board, Notes, Parts, FRAME, PIECE, ROOM, TABLE};
 use rivertosku::fault::Fault;
 use rivertosku::generator::{self, any_name, any_set, other_set, Random, BENCH_ROOM};
 use rivertosku::position::{Count, Microsteps, Position, Steps};
-use rivertosku::same;
-use rivertosku::table::BLOCKS;
 
 /// The widest room of a call.
 pub const WIDEST: usize = 300;
@@ -100,18 +98,25 @@ fn around(random: &mut Random) -> i16 {
     random.pick(&[-256, -255, 255, 256, i16::MIN, i16::MAX, any])
 }
 
-fn report(random: &mut Random) -> Report {
-    if random.percent(50) {
-        return Report::Clock(later(random, 0, false));
+fn event(random: &mut Random) -> Event {
+    match random.below(20) {
+        0..=7 => Event::Clock(later(random, 0, false)),
+        8..=15 => {
+            let microsteps = if random.percent(60) { inside(random) } else { around(random) };
+            Event::Position(position(random, microsteps))
+        }
+        16..=18 => {
+            let any = random.below(2 * TABLE);
+            Event::HandOut(random.pick(&[0, TABLE - 1, TABLE, TABLE, TABLE + 1, any]))
+        }
+        _ => Event::Restart,
     }
-    let microsteps = if random.percent(60) { inside(random) } else { around(random) };
-    Report::Position(position(random, microsteps))
 }
 
-/// A few reports in a row, if any.
-fn reports(random: &mut Random, chance: usize) -> Vec<Report> {
+/// A few events in a row, if any.
+fn events(random: &mut Random, chance: usize) -> Vec<Event> {
     let some = if random.percent(chance) { 1 + random.below(3) } else { 0 };
-    (0..some).map(|_| report(random)).collect()
+    (0..some).map(|_| event(random)).collect()
 }
 
 /// Room enough for a call.
@@ -135,9 +140,13 @@ fn beginning(random: &mut Random) -> Vec<u8> {
 /// A state by hand: a rule of soundness broken, or just kept.
 fn change(random: &mut Random) -> Change {
     match random.below(18) {
-        0..=5 => {
+        0..=3 => {
             let block = generator::any_block(random);
-            Change::Data(block, generator::data(random, block, 1))
+            Change::Data(block, generator::kept(random, block, 1))
+        }
+        4 | 5 => {
+            let block = generator::any_block(random);
+            Change::Data(block, generator::unclean(random, block))
         }
         6 => Change::Flags(random.pick(&[7, 8, 9, 128, 255, 256, usize::MAX])),
         7 => Change::Held(vec![0], 1),
@@ -166,10 +175,7 @@ fn change(random: &mut Random) -> Change {
 /// A sound state, and the bytes that would finish its unit.
 fn sound(random: &mut Random) -> (Parts, Vec<u8>) {
     let mut parts = *Board::fresh().parts();
-    for block in 1..=BLOCKS {
-        let data = generator::data(random, block, 0);
-        same::put_data(&mut parts.memory.settings, block, &data);
-    }
+    parts.memory.settings.bytes.copy_from_slice(&generator::sound_table(random));
     parts.memory.notes = Notes {
         flags: random.below(8),
         block: random.pick(&[0, 1, 7, 10, 11, 256, usize::MAX]),
@@ -194,7 +200,7 @@ fn sound(random: &mut Random) -> (Parts, Vec<u8>) {
 /// Calls aside, which take nothing.
 fn aside(random: &mut Random, piece: &[u8], stamp: u32) -> Step {
     let mut aside =
-        Step { change: None, reports: reports(random, 20), piece: piece.to_vec(), stamp: later(random, stamp, false), room: room(random) };
+        Step { change: None, events: events(random, 20), piece: piece.to_vec(), stamp: later(random, stamp, false), room: room(random) };
     match random.below(6) {
         0 => aside.piece.clear(),
         1 => aside.room = if random.percent(50) { ROOM - 1 } else { random.below(ROOM) },
@@ -239,9 +245,9 @@ pub fn random_run(random: &mut Random, fault: Fault, counts: &mut Counts) -> Res
         if random.percent(12) {
             steps.push(aside(random, &piece, stamp));
         }
-        // Long pieces take several calls: reports are to come between these too.
+        // Long pieces take several calls: events are to come between these too.
         let chance = 1 + piece.len() / 8;
-        steps.push(Step { change: None, reports: reports(random, chance), piece, stamp, room: room(random) });
+        steps.push(Step { change: None, events: events(random, chance), piece, stamp, room: room(random) });
         stamp = later(random, stamp, calm);
     }
     Ok(Run { start, steps })

@@ -22,12 +22,12 @@ fn fewer_steps(run: &Run) -> Vec<Run> {
     tries
 }
 
-/// The run with a report or bytes of a step dropped, or the next step joined to it, less its reports.
+/// The run with an event or bytes of a step dropped, or the next step joined to it, less its events.
 fn shorter_step(run: &Run, i: usize) -> Vec<Run> {
     let mut tries = vec![];
-    for report in 0..run.steps[i].reports.len() {
+    for event in 0..run.steps[i].events.len() {
         let mut less = run.clone();
-        less.steps[i].reports.remove(report);
+        less.steps[i].events.remove(event);
         tries.push(less);
     }
     let n = run.steps[i].piece.len();
@@ -49,7 +49,7 @@ fn shorter_step(run: &Run, i: usize) -> Vec<Run> {
     tries
 }
 
-/// The shortest failing run that dropping calls, reports and bytes leads to.
+/// The shortest failing run that dropping calls, events and bytes leads to.
 pub fn shortest(mut run: Run, fault: Fault) -> (Run, Miss) {
     let fails = |run: &Run| play(run, fault, &mut Counts::default()).err();
     let mut miss = fails(&run).expect("it failed before");

@@ -13,18 +13,18 @@ use Rattle.sheet.specs.Rows.{numbersIn, firstBad}
 use Rattle.position.specs.Position.{travelOf, travelNumbers}
 use Rattle.position.specs.declared.Travel.{Travel}
 use Rattle.names.specs.declared.Order.{Order}
-use Rattle.unit.specs.Unit.{moveOrder, moves}
+use Rattle.unit.specs.Unit.{moveOrder, moves, memoryAt, outcomeAt}
 use Rattle.unit.proofs.Sets.{section-is, says-damaged, says-refused, says-done}
 use Rattle.travel.proofs.moves.answer_move.Statement.{statement}
 use Rattle.travel.proofs.moves.answer_move.Tie as tie
 
 returns : tie.Need-returns
 unfolding moves
-returns c =
+returns c table =
     let said = c .before .before in
     let test = said .before .before in
     let a = test .before .before .before .before .args in
-    says-damaged (a .memory) (a .unit .now) (a .block) _ _ (sym (test .before .is-intact .ensures) ∙ not-true _ (test .if1 .taken)) (said .refuse-crc .ensures)
+    says-damaged (memoryAt table (a .slate)) (a .unit .now) (a .block) _ _ (sym (test .before .is-intact .ensures) ∙ not-true _ (test .if1 .taken)) (said .refuse-crc .ensures table)
 
 -- past the first test the unit is intact, so it has a name and a CRC
 long : (c : tie.Else1) → 6 ≤ length (c .before .before .before .before .args .unit .now)
@@ -45,29 +45,29 @@ decoded c = c .decode .ensures ∙ ap (λ (d : List ℕ). travelOf (numbersIn mo
 
 returns-2 : tie.Need-returns-2
 unfolding moves
-returns-2 c =
+returns-2 c table =
     let said = c .before .before in
     let bad = said .before .before .before in
     let carried = bad .before in
     let test = carried .before .before in
     let a = test .before .before .before .before .args in
-    says-refused (a .memory) (a .unit .now) (a .block) _ _ (bad .first-bad .result)
+    says-refused (memoryAt table (a .slate)) (a .unit .now) (a .block) _ _ (bad .first-bad .result)
     (bad .first-bad .ensures ∙ ap (λ (t : Travel). firstBad moveRow (travelNumbers t)) (decoded carried))
-    (sym (test .before .is-intact .ensures) ∙ not-false _ (test .if1 .left)) (said .before .before .if2 .taken) (said .refuse-field .ensures)
+    (sym (test .before .is-intact .ensures) ∙ not-false _ (test .if1 .left)) (said .before .before .if2 .taken) (said .refuse-field .ensures table)
 
 returns-3 : tie.Need-returns-3
 unfolding moves
-returns-3 c =
+returns-3 c table =
     let said = c .before .before .before in
     let bad = said .before .before .before in
     let carried = bad .before in
     let test = carried .before .before in
     let a = test .before .before .before .before .args in
-    says-done (a .memory) (a .unit .now) (a .block) _ _ (bad .first-bad .result)
+    says-done (memoryAt table (a .slate)) (a .unit .now) (a .block) _ _ (bad .first-bad .result)
     (bad .first-bad .ensures ∙ ap (λ (t : Travel). firstBad moveRow (travelNumbers t)) (decoded carried))
     (sym (test .before .is-intact .ensures) ∙ not-false _ (test .if1 .left)) (said .before .before .if2 .left)
     (record {
-      result = ap (λ (o : Order). record { order = o; memory = a .memory }) (c .order-of .ensures ∙ ap (moveOrder (a .block)) (decoded carried));
+      result = ap (λ (o : Order). outcomeAt table (record { order = o; slate = a .slate })) (c .order-of .ensures ∙ ap (moveOrder (a .block)) (decoded carried));
       reply = said .echo .ensures;
     })
 

@@ -12,20 +12,21 @@ use Rattle.sheet.specs.Sheet.{sposRow}
 use Rattle.sheet.specs.Rows.{numbersIn, firstBad}
 use Rattle.position.specs.Position.{sposOf, sposNumbers, placed}
 use Rattle.position.specs.declared.Spos.{Spos}
+use Rattle.position.specs.declared.Position.{Position}
 use Rattle.names.specs.declared.Order.the-variants.{Nothing}
-use Rattle.unit.specs.Unit.{stands, places}
-use Rattle.unit.specs.declared.Memory.{Memory}
+use Rattle.unit.specs.Unit.{places, memoryAt, outcomeAt}
+use Rattle.unit.specs.declared.Slate.{Slate}
 use Rattle.unit.proofs.Sets.{answered-as, section-is, says-damaged, says-refused, says-done}
 use Rattle.travel.proofs.places.answer_spos.Statement.{statement}
 use Rattle.travel.proofs.places.answer_spos.Tie as tie
 
 returns : tie.Need-returns
 unfolding places
-returns c =
+returns c table =
     let said = c .before .before in
     let test = said .before .before in
     let a = test .before .before .before .before .args in
-    says-damaged (a .memory) (a .unit .now) 10 _ _ (sym (test .before .is-intact .ensures) ∙ not-true _ (test .if1 .taken)) (said .refuse-crc .ensures)
+    says-damaged (memoryAt table (a .slate)) (a .unit .now) 10 _ _ (sym (test .before .is-intact .ensures) ∙ not-true _ (test .if1 .taken)) (said .refuse-crc .ensures table)
 
 -- past the first test the unit is intact, so it has a name and a CRC
 long : (c : tie.Else1) → 6 ≤ length (c .before .before .before .before .args .unit .now)
@@ -46,19 +47,19 @@ decoded c = c .decode .ensures ∙ ap (λ (d : List ℕ). sposOf (numbersIn spos
 
 returns-2 : tie.Need-returns-2
 unfolding places
-returns-2 c =
+returns-2 c table =
     let said = c .before .before in
     let bad = said .before .before .before in
     let carried = bad .before in
     let test = carried .before .before in
     let a = test .before .before .before .before .args in
-    says-refused (a .memory) (a .unit .now) 10 _ _ (bad .first-bad .result)
+    says-refused (memoryAt table (a .slate)) (a .unit .now) 10 _ _ (bad .first-bad .result)
     (bad .first-bad .ensures ∙ ap (λ (s : Spos). firstBad sposRow (sposNumbers s)) (decoded carried))
-    (sym (test .before .is-intact .ensures) ∙ not-false _ (test .if1 .left)) (said .before .before .if2 .taken) (said .refuse-field .ensures)
+    (sym (test .before .is-intact .ensures) ∙ not-false _ (test .if1 .left)) (said .before .before .if2 .taken) (said .refuse-field .ensures table)
 
 returns-3 : tie.Need-returns-3
 unfolding places
-returns-3 c =
+returns-3 c table =
     let put = c .before in
     let new = put .before in
     let said = new .before .before .before .before in
@@ -66,14 +67,15 @@ returns-3 c =
     let carried = bad .before in
     let test = carried .before .before in
     let a = test .before .before .before .before .args in
-    answered-as (c .quiet .ensures)
-    (says-done (a .memory) (a .unit .now) 10 _ _ (bad .first-bad .result)
+    answered-as (ap (outcomeAt table) (c .quiet .ensures))
+    (says-done (memoryAt table (a .slate)) (a .unit .now) 10 _ _ (bad .first-bad .result)
     (bad .first-bad .ensures ∙ ap (λ (s : Spos). firstBad sposRow (sposNumbers s)) (decoded carried))
     (sym (test .before .is-intact .ensures) ∙ not-false _ (test .if1 .left)) (said .before .before .if2 .left)
     (record {
       result =
-          ap (λ (m : Memory). record { order = Nothing; memory = m })
-          (put .standing .ensures ∙ ap (stands (a .memory)) (new .placed .ensures ∙ ap (λ (s : Spos). placed s (a .memory .position)) (decoded carried)));
+          ap (λ (s : Slate). outcomeAt table (record { order = Nothing; slate = s }))
+          (put .standing .ensures
+          ∙ ap (λ (p : Position). record { notes = a .slate .notes; position = p }) (new .placed .ensures ∙ ap (λ (s : Spos). placed s (a .slate .position)) (decoded carried)));
       reply = said .echo .ensures;
     }))
 

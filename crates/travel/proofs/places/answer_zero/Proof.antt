@@ -2,21 +2,24 @@
 use mathlib.Core.Path.{ap, _∙_}
 use borrow.Author.Needs.{needs}
 use Rattle.names.specs.declared.Order.the-variants.{Nothing}
-use Rattle.unit.specs.Unit.{stands}
-use Rattle.unit.specs.declared.Memory.{Memory}
+use Rattle.unit.specs.Unit.{outcomeAt}
+use Rattle.unit.specs.declared.Slate.{Slate}
+use Rattle.position.specs.declared.Position.{Position}
 use Rattle.unit.proofs.Sets.{answered-as}
 use Rattle.travel.proofs.places.answer_zero.Statement.{statement}
 use Rattle.travel.proofs.places.answer_zero.Tie as tie
 
 returns : tie.Need-returns
-returns c =
+returns c table =
     let put = c .before in
     let new = put .before in
     let said = new .before .before .before .before in
     let a = said .before .before .before .before .args in
-    answered-as (c .quiet .ensures)
+    answered-as (ap (outcomeAt table) (c .quiet .ensures))
     (record {
-      result = ap (λ (m : Memory). record { order = Nothing; memory = m }) (put .standing .ensures ∙ ap (stands (a .memory)) (new .cleared .ensures));
+      result =
+          ap (λ (s : Slate). outcomeAt table (record { order = Nothing; slate = s }))
+          (put .standing .ensures ∙ ap (λ (p : Position). record { notes = a .slate .notes; position = p }) (new .cleared .ensures));
       reply = said .echo .ensures;
     })
 
