@@ -15,6 +15,7 @@ use borrow.Author.Tests.{eqb-true, eqb-false, eq-eqb, ne-eqb, leb-true, leb-fals
 use Rattle.wire.specs.Numbers.{leAt}
 use Rattle.wire.specs.Layout.{sum, numbers}
 use Rattle.wire.proofs.Numbers.{leAt-same}
+use Rattle.wire.proofs.Values.{and-true}
 use Rattle.ranges.specs.Tests.{firstFalse}
 use Rattle.sheet.specs.Sheet.{Row}
 use Rattle.sheet.specs.Rows.{sizeOf, widths, numbersIn, verdicts, firstBad, canonical}
@@ -110,10 +111,6 @@ and-both a b e f = ap (λ (x : Bool). x && b) e ∙ f
 and-assoc : (a b c : Bool) → ((a && b) && c) ≡ (a && (b && c))
 and-assoc true b c = refl
 and-assoc false b c = refl
-
-and-true : (a : Bool) → a ≡ (a && true)
-and-true true = refl
-and-true false = refl
 
 and-false : (a : Bool) → false ≡ (a && false)
 and-false true = refl

@@ -13,6 +13,7 @@ use Rattle.wire.specs.Numbers.{leBytes}
 use Rattle.wire.specs.Layout.{sum}
 use Rattle.wire.proofs.Numbers.{leBytes-zero}
 use Rattle.wire.proofs.Stores.{sets-append}
+use Rattle.wire.proofs.Values.{and-true}
 use Rattle.sheet.specs.Sheet.{Row, sheet}
 use Rattle.sheet.specs.Rows.{sizeOf, rowAt, widths, numbersIn}
 use Rattle.sheet.specs.Sections.{bytesAt, soundIn}
@@ -63,10 +64,6 @@ part-numbers k t x e =
 pub sections : (r : Row) (n p : ℕ) (t : List ℕ) (x : List ℕ) (a b g : Bool) → x ≡ take n (drop p t) → a ≡ soundIn r x → b ≡ g → (a && b) ≡ (soundIn r (bytesAt n p t) && g)
 sections r n p t x a b g e f h =
     ap (λ (z : Bool). z && b) (f ∙ ap (soundIn r) e ∙ sound-alike r (take n (drop p t)) (bytesAt n p t) (part-byte n p t)) ∙ ap (λ (z : Bool). soundIn r (bytesAt n p t) && z) h
-
-and-true : (a : Bool) → a ≡ (a && true)
-and-true true = refl
-and-true false = refl
 
 pub last-section : (r : Row) (n p : ℕ) (t : List ℕ) (x : List ℕ) (a : Bool) → x ≡ take n (drop p t) → a ≡ soundIn r x → a ≡ (soundIn r (bytesAt n p t) && true)
 last-section r n p t x a e f = and-true a ∙ sections r n p t x a true true e f refl

@@ -162,7 +162,7 @@ or-false : (a b : Bool) → b ≡ false → (a || b) ≡ a
 or-false true b e = refl
 or-false false b e = e
 
-and-true : (a : Bool) → a ≡ (a && true)
+pub and-true : (a : Bool) → a ≡ (a && true)
 and-true true = refl
 and-true false = refl
 
