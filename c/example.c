@@ -1,5 +1,5 @@
 /* A board's main loop: stamped pieces in, replies out, orders to the drive, the time reported when nothing comes, and the drive's position
-   when it has moved. Then its settings over a restart. */
+   when it has moved. Then its settings, looked at and over a restart. */
 #include "rivertosku.h"
 
 #include <inttypes.h>
@@ -9,7 +9,7 @@
 struct arrival {
     uint32_t stamp;
     size_t length;
-    uint8_t bytes[32];
+    uint8_t bytes[RIVERTOSKU_FRAME];
 };
 
 /* What the serial port would bring. A length of 0: a turn of the loop at which nothing came. */
@@ -27,6 +27,11 @@ static const struct arrival line[] = {
     {1060, 2, {'o', 's'}},
     /* Where it stands is step 0 from now on. */
     {1070, 4, {'z', 'e', 'r', 'o'}},
+    /* The pendant: a second speed of 9216 while the first and its part are zero, which ctl's rule refuses; then a first speed of 65535. */
+    {1080, RIVERTOSKU_CTL_FRAME, {'s', 'c', 't', 'l', 0, 0, 0, 0, 0x00, 0x24}},
+    {1090, RIVERTOSKU_CTL_FRAME, {'s', 'c', 't', 'l', 0xFF, 0xFF}},
+    /* And its joystick, from 1000 over 5000 to 9000. */
+    {1100, RIVERTOSKU_JOY_FRAME, {'s', 'j', 'o', 'y', 0xE8, 0x03, 0x88, 0x13, 0x28, 0x23, 100, 50, 1, 0, 0, 0, 0, 0, 0, 0, 0x0A, 0x46}},
     /* Half a command; the rest comes 401 ms later and is read as a new unit. */
     {2000, 2, {'l', 'e'}},
     {2401, 2, {'f', 't'}},
@@ -96,6 +101,16 @@ static void send_reply(const uint8_t *reply, size_t length)
 static unsigned t1_of(const struct rivertosku_board *board)
 {
     return rivertosku_brk_of(board->memory.settings.bytes, sizeof board->memory.settings.bytes).t1;
+}
+
+/* What an errv refused last, and the pendant's settings. */
+static void tell_pendant(const struct rivertosku_memory *memory)
+{
+    const struct rivertosku_ctl ctl = rivertosku_ctl_of(memory->settings.bytes, sizeof memory->settings.bytes);
+    const struct rivertosku_joy joy = rivertosku_joy_of(memory->settings.bytes, sizeof memory->settings.bytes);
+    printf("refused block %" PRIu64 " for %s\n", memory->notes.block, memory->notes.field == RIVERTOSKU_RULE ? "its rule" : "a field");
+    printf("speeds %" PRIu32 ", %" PRIu32 "; joystick %u, %u, %u, dead zone %u\n", ctl.max_speed[0], ctl.max_speed[1],
+           (unsigned)joy.joy_low_end, (unsigned)joy.joy_center, (unsigned)joy.joy_high_end, (unsigned)joy.dead_zone);
 }
 
 /* A start with what flash has: its settings, or fresh ones where it is refused. */
@@ -173,6 +188,7 @@ int main(void)
            board.stamp);
     const struct rivertosku_position at = board.memory.position;
     printf("position %" PRId32 ":%" PRId16 ", count %" PRId64 "\n", at.steps, at.microsteps, at.count);
+    tell_pendant(&board.memory);
     restart(&board);
     return 0;
 }

@@ -13,7 +13,7 @@ static void stop(const char *refused, uint8_t number)
 
 static void tell_refusals(const struct rivertosku_blocks *good)
 {
-    uint8_t frame[RIVERTOSKU_FRAME];
+    uint8_t frame[RIVERTOSKU_HOST_FRAME];
     struct rivertosku_blocks bad = *good;
     bad.mov.accel = 0;
     printf("accel 0: %u\n", (unsigned)rivertosku_write_set(RIVERTOSKU_MOV, bad, frame, sizeof frame).number);
@@ -33,7 +33,7 @@ static void tell_lengths(void)
 {
     static const size_t frames[] = {RIVERTOSKU_MOV_FRAME, RIVERTOSKU_ENG_FRAME, RIVERTOSKU_PWR_FRAME, RIVERTOSKU_EDS_FRAME,
                                     RIVERTOSKU_HOM_FRAME, RIVERTOSKU_BRK_FRAME, RIVERTOSKU_PID_FRAME};
-    uint8_t frame[RIVERTOSKU_FRAME];
+    uint8_t frame[RIVERTOSKU_HOST_FRAME];
     /* A refused reading has fresh values in all blocks. */
     struct rivertosku_blocks fresh = rivertosku_read(NULL, 0).blocks;
     printf("sets of");
@@ -125,7 +125,7 @@ static void ask(struct rivertosku_board *board, const uint8_t *frame, struct riv
 int main(void)
 {
     struct rivertosku_board board = rivertosku_fresh();
-    uint8_t frame[RIVERTOSKU_FRAME];
+    uint8_t frame[RIVERTOSKU_HOST_FRAME];
     struct rivertosku_blocks wanted = {.mov = {.speed = 100000, .u_speed = 7, .accel = 2000, .decel = 3000, .antiplay_speed = 50}};
 
     ask(&board, frame, rivertosku_write_set(RIVERTOSKU_MOV, wanted, frame, sizeof frame));

@@ -23,7 +23,7 @@ extern "C" {
 
 /* The layouts of the structs below: the board's and the optimiser's. A function's name in the archive ends in its layout's number, so that a
    header and an archive of different layouts do not link, whichever function is used. */
-#define RIVERTOSKU_LAYOUT 3
+#define RIVERTOSKU_LAYOUT 4
 #define RIVERTOSKU_HOST_LAYOUT 1
 #define RIVERTOSKU_GLUE(name, number) name##number
 #define RIVERTOSKU_NUMBERED(name, number) RIVERTOSKU_GLUE(name, number)
@@ -42,20 +42,23 @@ extern "C" {
 #define rivertosku_hom_of RIVERTOSKU_NUMBERED(rivertosku_hom_, RIVERTOSKU_LAYOUT)
 #define rivertosku_brk_of RIVERTOSKU_NUMBERED(rivertosku_brk_, RIVERTOSKU_LAYOUT)
 #define rivertosku_pid_of RIVERTOSKU_NUMBERED(rivertosku_pid_, RIVERTOSKU_LAYOUT)
+#define rivertosku_ctl_of RIVERTOSKU_NUMBERED(rivertosku_ctl_, RIVERTOSKU_LAYOUT)
+#define rivertosku_joy_of RIVERTOSKU_NUMBERED(rivertosku_joy_, RIVERTOSKU_LAYOUT)
 #define rivertosku_write_get RIVERTOSKU_NUMBERED(rivertosku_write_get_, RIVERTOSKU_HOST_LAYOUT)
 #define rivertosku_write_order RIVERTOSKU_NUMBERED(rivertosku_write_order_, RIVERTOSKU_HOST_LAYOUT)
 #define rivertosku_write_set RIVERTOSKU_NUMBERED(rivertosku_write_set_, RIVERTOSKU_HOST_LAYOUT)
 #define rivertosku_read RIVERTOSKU_NUMBERED(rivertosku_read_, RIVERTOSKU_HOST_LAYOUT)
 
-/* The longest frame of a request, which is also the longest answer. */
-#define RIVERTOSKU_FRAME 48
+/* The longest frame that a board takes, which is also its longest answer; and the optimiser's, whose end knows the blocks 1 to 7 only. */
+#define RIVERTOSKU_FRAME 93
+#define RIVERTOSKU_HOST_FRAME 48
 
 /* The longest piece and the least room for replies that a call accepts: the room is that of the longest answer. */
 #define RIVERTOSKU_PIECE 250
 #define RIVERTOSKU_ROOM RIVERTOSKU_FRAME
 
-/* The bytes of all settings: the blocks 1 to 7, each as its get sends it without name and CRC. */
-#define RIVERTOSKU_TABLE 174
+/* The bytes of all settings: the blocks 1 to 7, 11 and 12, each as its get sends it without name and CRC. */
+#define RIVERTOSKU_TABLE 277
 
 /* The number of a call's answer, and of a report's: of the time 0 or 3, of the position 0, 3 or 5. A refused call takes and writes nothing;
    the board stays as it is. */
@@ -73,7 +76,7 @@ enum {
     RIVERTOSKU_OUT_TOO_SMALL = 2   /* handed out: a buffer under RIVERTOSKU_TABLE bytes */
 };
 
-/* Blocks. The last three are no settings: they stand in the notes, and the optimiser's end does not know them. */
+/* Blocks. 8 to 10 are no settings: they stand in the notes. The optimiser's end knows 1 to 7 only. */
 enum {
     RIVERTOSKU_MOV = 1,
     RIVERTOSKU_ENG = 2,
@@ -84,7 +87,9 @@ enum {
     RIVERTOSKU_PID = 7,
     RIVERTOSKU_MOVE = 8,
     RIVERTOSKU_MOVR = 9,
-    RIVERTOSKU_SPOS = 10
+    RIVERTOSKU_SPOS = 10,
+    RIVERTOSKU_CTL = 11,
+    RIVERTOSKU_JOY = 12
 };
 
 /* How long a block's frame is: its set, and the answer to its get, or to gpos. A get, zero, an order without steps, an echo and an error
@@ -99,7 +104,9 @@ enum {
     RIVERTOSKU_PID_FRAME = 48,
     RIVERTOSKU_MOVE_FRAME = 18,
     RIVERTOSKU_MOVR_FRAME = 18,
-    RIVERTOSKU_SPOS_FRAME = 26
+    RIVERTOSKU_SPOS_FRAME = 26,
+    RIVERTOSKU_CTL_FRAME = 93,
+    RIVERTOSKU_JOY_FRAME = 22
 };
 
 /* Orders. RIVERTOSKU_MOVE and RIVERTOSKU_MOVR, as above, are orders too and carry steps and microsteps. */
@@ -118,11 +125,16 @@ enum {
 enum {
     RIVERTOSKU_COMMAND_ERROR = 1, /* errc: a name that nobody knows */
     RIVERTOSKU_DATA_ERROR = 2,    /* errd: a set with a wrong CRC */
-    RIVERTOSKU_VALUE_ERROR = 4    /* errv: a set with a field out of range */
+    RIVERTOSKU_VALUE_ERROR = 4    /* errv: a set with a field out of range, or with its block's rule broken */
 };
 
-/* The blocks, as the functions below read them out of a board's table and as the optimiser writes and reads them. A flag field with a bit set
-   besides its known bits is out of range. */
+/* In the notes, instead of a field's number: every field was in its range, but the rule over the block's fields was broken. */
+enum {
+    RIVERTOSKU_RULE = 99
+};
+
+/* The blocks, as the functions below read them out of a board's table and as the optimiser writes and reads the first seven. A flag field with
+   a bit set besides its known bits is out of range. */
 
 /* Block 1: speeds 0..100000, accel and decel 1..65535. */
 struct rivertosku_mov {
@@ -195,12 +207,34 @@ struct rivertosku_pid {
     float kdf;
 };
 
+/* Block 11: speeds 0..100000, u_delta_position -255..255. Each element of an array is a field of its own: the speeds are the fields 1 to 10,
+   their parts 11 to 20, the timeouts 21 to 29. Its rule: max_speed[0] and u_max_speed[0] are not both zero. */
+struct rivertosku_ctl {
+    uint32_t max_speed[10];
+    uint8_t u_max_speed[10];
+    uint16_t timeout[9];
+    uint16_t max_click_time;
+    uint16_t flags; /* known bits 0x0F */
+    int32_t delta_position;
+    int16_t u_delta_position;
+};
+
+/* Block 12: ends and centre 0..10000. Its rule: joy_low_end <= joy_center <= joy_high_end. */
+struct rivertosku_joy {
+    uint16_t joy_low_end;
+    uint16_t joy_center;
+    uint16_t joy_high_end;
+    uint8_t exp_factor;
+    uint8_t dead_zone;
+    uint8_t joy_flags; /* known bit 0x01 */
+};
+
 /* A board's settings: the blocks in number order, one behind the other, reserved bytes zero. rivertosku_mov_of and so on read the fields. */
 struct rivertosku_settings {
     uint8_t bytes[RIVERTOSKU_TABLE];
 };
 
-/* Flags, and the block and field that an errv refused last (0 and 0: none). */
+/* Flags, and the block and field that an errv refused last (0 and 0: none; a field RIVERTOSKU_RULE: the block's rule). */
 struct rivertosku_notes {
     uint64_t flags;
     uint64_t block;
@@ -314,13 +348,16 @@ struct rivertosku_eds rivertosku_eds_of(const uint8_t *table, size_t table_len);
 struct rivertosku_hom rivertosku_hom_of(const uint8_t *table, size_t table_len);
 struct rivertosku_brk rivertosku_brk_of(const uint8_t *table, size_t table_len);
 struct rivertosku_pid rivertosku_pid_of(const uint8_t *table, size_t table_len);
+struct rivertosku_ctl rivertosku_ctl_of(const uint8_t *table, size_t table_len);
+struct rivertosku_joy rivertosku_joy_of(const uint8_t *table, size_t table_len);
 
 /* For the flash writer: the board's table at the front of out, RIVERTOSKU_TABLE bytes; bytes past them are kept. RIVERTOSKU_OUT_TOO_SMALL,
    tested first, or RIVERTOSKU_UNSOUND, and out is as it was. */
 uint8_t rivertosku_hand_out(struct rivertosku_board board, uint8_t *out, size_t out_len);
 
 /* A board with the settings of a table that was handed out, and everything else fresh. RIVERTOSKU_ANOTHER_LENGTH, tested first, or
-   RIVERTOSKU_UNSOUND where a field is out of its range or a reserved byte is not zero; the board is then a fresh one. */
+   RIVERTOSKU_UNSOUND where a field is out of its range, a block's rule is broken or a reserved byte is not zero; the board is then a fresh
+   one. */
 struct rivertosku_report rivertosku_take_back(const uint8_t *bytes, size_t bytes_len);
 
 /* The optimiser's end, in liboptimiser.a. */
@@ -378,7 +415,7 @@ struct rivertosku_reading {
     struct rivertosku_blocks blocks; /* data stands in its block, all else is fresh; in range or not */
 };
 
-/* A request's frame at the front of out. Bytes past the frame are kept. */
+/* A request's frame at the front of out, for which RIVERTOSKU_HOST_FRAME bytes are enough. Bytes past the frame are kept. */
 struct rivertosku_written rivertosku_write_get(uint8_t block, uint8_t *out, size_t out_len);
 struct rivertosku_written rivertosku_write_order(uint8_t order, uint8_t *out, size_t out_len);
 
@@ -408,18 +445,22 @@ RIVERTOSKU_AT(hom, home_delta, 16);
 static_assert(sizeof(struct rivertosku_brk) == 10, "brk");
 static_assert(sizeof(struct rivertosku_pid) == 20, "pid");
 RIVERTOSKU_AT(pid, kpf, 8);
+static_assert(sizeof(struct rivertosku_ctl) == 80, "ctl");
+static_assert(sizeof(struct rivertosku_joy) == 10, "joy");
 static_assert(sizeof(struct rivertosku_settings) == RIVERTOSKU_TABLE, "settings");
 static_assert(RIVERTOSKU_TABLE == RIVERTOSKU_MOV_FRAME + RIVERTOSKU_ENG_FRAME + RIVERTOSKU_PWR_FRAME + RIVERTOSKU_EDS_FRAME +
-                                      RIVERTOSKU_HOM_FRAME + RIVERTOSKU_BRK_FRAME + RIVERTOSKU_PID_FRAME - 7 * 6,
+                                      RIVERTOSKU_HOM_FRAME + RIVERTOSKU_BRK_FRAME + RIVERTOSKU_PID_FRAME + RIVERTOSKU_CTL_FRAME +
+                                      RIVERTOSKU_JOY_FRAME - 9 * 6,
               "each block's frame less its name and CRC");
+static_assert(RIVERTOSKU_FRAME == RIVERTOSKU_CTL_FRAME && RIVERTOSKU_HOST_FRAME == RIVERTOSKU_PID_FRAME, "the longest frames");
 static_assert(sizeof(struct rivertosku_notes) == 24, "notes");
 static_assert(sizeof(struct rivertosku_position) == 16, "position");
 RIVERTOSKU_AT(position, count, 8);
 /* The table and the held bytes fill whole words; notes and position follow the one, count and stamp the other. */
-static_assert(sizeof(struct rivertosku_memory) == 216, "memory");
+static_assert(sizeof(struct rivertosku_memory) == 320, "memory");
 RIVERTOSKU_AT(memory, notes, (RIVERTOSKU_TABLE + 7) / 8 * 8);
-static_assert(sizeof(struct rivertosku_board) == 280, "board");
-RIVERTOSKU_AT(board, count, 216 + (RIVERTOSKU_FRAME + 7) / 8 * 8);
+static_assert(sizeof(struct rivertosku_board) == 432, "board");
+RIVERTOSKU_AT(board, count, 320 + (RIVERTOSKU_FRAME + 7) / 8 * 8);
 static_assert(sizeof(struct rivertosku_rest) == 56, "rest");
 RIVERTOSKU_AT(rest, position, 24);
 RIVERTOSKU_AT(rest, count, 40);

@@ -7,7 +7,8 @@ import sys
 
 sys.dont_write_bytecode = True
 import model
-from model import ANY, BITS, BLOCKS, FRAME, ORDERS, PIECE, ROWS, TABLE, TRAVELS, Board, crc, first_bad, frame, fresh, number_of, section, shown
+from model import ANY, BITS, BLOCKS, FRAME, HOST_FRAME, LATER, ORDERS, PIECE, ROWS, SHEET, TABLE, TRAVELS, Board
+from model import crc, first_bad, frame, fresh, number_of, section, shown
 from store import store
 
 ROOM = 250  # of a call, where its case does not say
@@ -130,7 +131,7 @@ class Player:
     def answer(self, data):
         self.case('a', data=data)
         number, length, name, read = model.read(data)
-        self.line(number, length, *[] if name is None else [name], *[] if read is None else [wide(read)])
+        self.line(number, length, *[] if name is None else [name], *[] if read is None else [wide(read, HOST_FRAME)])
 
     # ---- arithmetic
 
@@ -156,8 +157,11 @@ FIELDS = {
     'move': ['Position', 'uPosition'],
     'movr': ['DeltaPosition', 'uDeltaPosition'],
     'spos': ['Position', 'uPosition', 'EncPosition', 'PosFlags'],
+    'ctl': [*(f'{run}[{k}]' for run, count in [('MaxSpeed', 10), ('uMaxSpeed', 10), ('Timeout', 9)] for k in range(count)),
+            'MaxClickTime', 'Flags', 'DeltaPosition', 'uDeltaPosition'],
+    'joy': ['JoyLowEnd', 'JoyCenter', 'JoyHighEnd', 'ExpFactor', 'DeadZone', 'JoyFlags'],
 }
-# a good set of each block and of 8 to 10, whose numbers tell its fields apart
+# a good set of each block, whose numbers tell its fields apart
 SETS = {
     'mov': [100000, 17, 1, 65535, 258, 255],
     'eng': [1, 8000, 100000, 2, 3, -4, 9, 200],
@@ -169,6 +173,8 @@ SETS = {
     'move': [-70000, 21],
     'movr': [70000, -21],
     'spos': [-3, 4, -5000000000, 0],
+    'ctl': [*range(99991, 100001), *range(10), *range(65527, 65536), 30, 15, -32, 255],
+    'joy': [1, 5000, 10000, 4, 255, 1],
 }
 GAINS = [0x80000000, 1, 0x7F7FFFFF, 0x7F800000, 0x7FC00001]  # -0.0, the least above 0, the largest finite, infinity, a NaN
 
@@ -189,6 +195,11 @@ def edges(field):
     if field[1] is ANY:
         return [least, most]
     return [n for n in (field[1] - 1, field[1], field[2], field[2] + 1) if least <= n <= most]
+
+
+def out_of_range(block):
+    """The fields of a block, from 0, each with the numbers tried that its range refuses."""
+    return [(k, n) for k, field in enumerate(BLOCKS[block].fields) for n in edges(field) if not model.passes(field, n)]
 
 
 def replaced(block, numbers, k, n):
@@ -228,24 +239,29 @@ def sheet(p):
         p.say(f'op at {now}')
         p.call(b'op', stamp=now)
     on_fresh('spwr', SPWR)
-    on_fresh('room 47', STOP, room=FRAME - 1, show=FRAME)
+    for room in (HOST_FRAME, FRAME - 1):
+        on_fresh(f'room {room}', STOP, room=room, show=FRAME)
     on_fresh('piece of 251', b'x' * (PIECE + 1))
     on_fresh('both', b'x' * (PIECE + 1), room=FRAME - 1)
     on_fresh('unfinished 00', STOP, held=b'\0')
-    on_fresh('unfinished 00, room 47', STOP, held=b'\0', room=FRAME - 1)
-    on_fresh('gpidgpid', b'gpidgpid', room=FRAME)
+    on_fresh(f'unfinished 00, room {FRAME - 1}', STOP, held=b'\0', room=FRAME - 1)
+    for piece in (b'gpidgpid', b'gctlgctl'):
+        on_fresh(piece.decode(), piece, room=FRAME)
 
 
 def unsound(p):
-    """A board for each rule of soundness, broken; each range is broken in `fields`."""
+    """A board for each rule of soundness, broken; each range is broken in `fields`, each block's rule in `pendant`."""
     brk, move, spos = (frame(name, fresh(name)) for name in ('brk', 'move', 'spos'))
     for label, held, count in [
             ('unknown name', b'x', 4), ('a get', b'gmov', 4), ('an order', b'stop', 4), ('whole set', brk, 25), ('longer than its set', brk, 26),
-            ('49 bytes', b'x', FRAME + 1), ('49 bytes of a set', b'spid', FRAME + 1), ('65535 bytes', b'spid', 65535), ('zero in front', b'\0mov', 3),
-            ('gpos', b'gpos', 4), ('the name zero', b'zero', 4), ('whole move', move, 18), ('whole movr', b'movr', 18), ('whole spos', spos, 26),
+            (f'{FRAME + 1} bytes', b'x', FRAME + 1), (f'{FRAME + 1} bytes of a set', b'sctl', FRAME + 1), ('65535 bytes', b'sctl', 65535),
+            ('zero in front', b'\0mov', 3), ('gpos', b'gpos', 4), ('the name zero', b'zero', 4), ('whole move', move, 18),
+            ('whole movr', b'movr', 18), ('whole spos', spos, 26), ('whole spid', b'spid', 48), ('whole sctl', b'sctl', 93),
+            ('whole sjoy', b'sjoy', 22),
             # and sound ones, close by
-            ('one byte short', brk[:24], 24), ('three bytes', b'xxx', 3), ('a name', b'spid', 4), ('47 bytes', b'spid', FRAME - 1),
-            ('move, one byte short', move, 17), ('movr, one byte short', b'movr', 17), ('spos, one byte short', spos, 25)]:
+            ('one byte short', brk[:24], 24), ('three bytes', b'xxx', 3), ('a name', b'spid', 4), ('spid, one byte short', b'spid', 47),
+            ('move, one byte short', move, 17), ('movr, one byte short', b'movr', 17), ('spos, one byte short', spos, 25),
+            ('sctl, one byte short', b'sctl', 92), ('sjoy, one byte short', b'sjoy', 21)]:
         p.fresh()
         p.hold(held, count)
         p.say(label)
@@ -289,11 +305,16 @@ def stops(p):
     for label, last, size in [
             ('zero', b'\0', 1), ('errc', UNKNOWN, 4), ('errd', b'spwr' + bytes(16), 4), ('errv', SPWR, 4), ('order', STOP, 4),
             ('set', frame('pwr', SETS['pwr']), 4), ('get', b'gpwr', 20), ('move', frame('move', SETS['move']), 4),
-            ('spos', frame('spos', SETS['spos']), 4), ('gpos', b'gpos', 26), ('the name zero', b'zero', 4)]:
+            ('spos', frame('spos', SETS['spos']), 4), ('gpos', b'gpos', 26), ('the name zero', b'zero', 4), ('gctl', b'gctl', FRAME)]:
         for room in (FRAME - 1 + size, FRAME + size):
             p.fresh()
             p.say(f'{label} behind {FRAME} bytes, room {room}')
-            p.call(b'gpid' + last + b'\0', room=room)
+            p.call(b'gctl' + last + b'\0', room=room)
+    p.fresh()
+    p.say('three gctl')
+    p.call(b'gctl' * 3)
+    p.say('the rest of them')
+    p.call(b'l')
     for label, piece in [
             ('orders', b'leftstop'), ('250 zeros', bytes(PIECE)), ('250 bytes of a name', b'x' * PIECE), ('unknown names', b'aaaabbbbccc')]:
         p.fresh()
@@ -318,11 +339,13 @@ def blocks(p):
 
 
 def one_number(p, label, block, data):
-    """A data section through the writer, as a set with its get, and held by a board."""
-    p.say(f'{label} write')
-    p.set(block, data, room=FRAME)
+    """A data section through the writer, where the host has its block, as a set with its get, and held by a board."""
+    if block in SHEET:
+        p.say(f'{label} write')
+        p.set(block, data, room=HOST_FRAME)
+        label = ' '
     p.fresh()
-    p.say('  set')
+    p.say(f'{label} set')
     p.call(model.framed('s' + block, data))
     p.say('  get')
     p.call(b'g' + block.encode())
@@ -334,16 +357,53 @@ def one_number(p, label, block, data):
     p.block(block)
 
 
+def beside(block, k):
+    """What stands beside the k-th field, from 0, where its edges are tried: fresh numbers, or such that both edges keep the block's rule."""
+    if block == 'ctl':
+        return [1] * len(FIELDS[block])
+    if block == 'joy':
+        return [10000 if k < place < 3 else 0 for place in range(len(FIELDS[block]))]
+    return fresh(block)
+
+
 def fields(p):
     """Every field at its edges, every bit of every flag field."""
     for block in BLOCKS:
-        for k, field in enumerate(BLOCKS[block][0]):
+        for k, field in enumerate(BLOCKS[block].fields):
             for n in edges(field):
-                one_number(p, f'{block} {FIELDS[block][k]} {n}', block, replaced(block, fresh(block), k, n))
+                one_number(p, f'{block} {FIELDS[block][k]} {n}', block, replaced(block, beside(block, k), k, n))
 
 
-# a field out of range in one of those sets
-REFUSED = [('mov', 0, 100001), ('eng', 6, 10), ('pwr', 0, 101), ('eds', 5, 256), ('hom', 5, -256), ('pid', 3, model.NAN)]
+def pendant(p):
+    """02, P6: the blocks of a fresh board; both rules on both sides; a rule broken beside each number that its field's range refuses, beside a wrong
+    CRC, after a good set, and on a board that is told or asked anything; the last byte of the longest set."""
+    ctl, joy = SETS['ctl'], SETS['joy']
+    session(p, 'fresh', (b'gctl', 7), (b'gjoy', 7))
+    for speed, part in [(0, 0), (0, 1), (1, 0), (0, 128), (256, 0), (65536, 0)]:
+        one_number(p, f'ctl speed {speed}, part {part}', 'ctl', section('ctl', [speed, *ctl[1:10], part, *ctl[11:]]))
+    for low, centre, high in [
+            (0, 0, 0), (256, 256, 256), (10000, 10000, 10000), (256, 256, 257), (256, 257, 257), (255, 256, 257),
+            (257, 256, 256), (257, 256, 257), (256, 255, 10000), (256, 257, 256), (0, 257, 256), (255, 256, 255), (258, 257, 256)]:
+        one_number(p, f'joy {low}, {centre}, {high}', 'joy', section('joy', [low, centre, high, *joy[3:]]))
+    for block, broken in [('ctl', [0] * len(ctl)), ('joy', [2, 1, 0, 0, 0, 0])]:
+        for k, n in out_of_range(block):
+            if (block, k) != ('ctl', 0):  # a first speed out of its range is not zero
+                one_number(p, f'{block} rule broken, {FIELDS[block][k]} {n}', block, replaced(block, broken, k, n))
+        units = [frame(block, broken, wrong=1), frame(block, SETS[block]), frame(block, broken, reserved=255), b'g' + block.encode()]
+        session(p, f'{block} rule broken', *((unit, 7) for unit in units))
+        p.put(block, section(block, broken))
+        refused(p, block)
+    whole = frame('ctl', ctl)
+    p.fresh()
+    p.hold(whole[:-1], FRAME - 1)
+    p.say("sctl's last byte")
+    p.call(whole[-1:])
+
+
+# a number that a set of those is refused for: out of its range, or against its block's rule
+REFUSED = [
+    ('mov', 0, 100001), ('eng', 6, 10), ('pwr', 0, 101), ('eds', 5, 256), ('hom', 5, -256), ('pid', 3, model.NAN),
+    ('ctl', 9, 100001), ('ctl', 32, -256), ('ctl', 0, 0), ('joy', 5, 2), ('joy', 0, 5001), ('joy', 2, 4999)]
 
 
 def exchange(p, label, piece, room=FRAME):
@@ -358,7 +418,7 @@ def requests(p):
     """Every request through writer, board and reader; then what the board answers to frames that no writer sends."""
     p.fresh()
     for turn in ('get', 'set', 'get'):
-        for block in BLOCKS:
+        for block in SHEET:
             p.say(f'{turn} {block} write')
             exchange(p, ' ', p.get(block) if turn == 'get' else p.set(block, section(block, SETS[block])))
     for order in ORDERS:
@@ -373,8 +433,9 @@ def requests(p):
 def refusals(p):
     """The refusals of writer and reader, in 02's sequence: each just before the next would hold."""
     for block, k, n in REFUSED:
-        p.say(f'{FIELDS[block][k]} {n} write')
-        p.set(block, replaced(block, SETS[block], k, n))
+        if block in SHEET:
+            p.say(f'{FIELDS[block][k]} {n} write')
+            p.set(block, replaced(block, SETS[block], k, n))
     p.say('no room besides write')
     p.set('mov', replaced('mov', SETS['mov'], 0, 100001), room=0)
     for room in (0, 3, 4):
@@ -382,7 +443,7 @@ def refusals(p):
         p.get('mov', room)
         p.say(f'room {room} write')
         p.order('stop', room)
-    for block in BLOCKS:
+    for block in SHEET:
         for room in (model.total(block) - 1, model.total(block)):
             p.say(f'set {block}, room {room} write')
             p.set(block, section(block, SETS[block]), room)
@@ -394,12 +455,13 @@ def refusals(p):
     for label, data in [
             ('nothing', b''), ('zero', b'\0'), ('zero, then more', b'\0mov'), ('three bytes', b'gmo'), ("no answer's name", b'move'),
             ('a later command, cut', b'gpos\0\0'), ('a later command', model.framed('gpos', bytes(20))), ('the name zero', b'zero'),
+            *((f'a later block, {name}', model.framed('g' + name, section(name, SETS[name]))) for name in LATER), ('its echo', b'sctl'),
             ('cut', b'gpwr' + bytes(15)), ('wrong CRC', b'gpwr' + bytes(16)),
             ('HoldCurrent 255, reserved not zero', model.framed('gpwr', power)), ('gains not finite', model.framed('gpid', gains)),
             ('errc, then more', b'errcerrd'), ('errd', b'errd'), ('errv, cut', b'err')]:
         p.say(f'{label} read')
         p.answer(data)
-    for block in BLOCKS:
+    for block in SHEET:
         data = model.framed('g' + block, section(block, SETS[block]))
         for label, part in [('', data), (', then more', data + b'\0'), (', cut', data[:-1]), (', damaged', one_more(data, -1))]:
             p.say(f'{block}{label} read')
@@ -455,7 +517,7 @@ def travels(p):
         p.call(b'gpos')
     for name in TRAVELS:
         good = SETS[name]
-        for k, field in enumerate(ROWS[name][0]):
+        for k, field in enumerate(ROWS[name].fields):
             for n in edges(field):
                 on_placed(f'{name} {FIELDS[name][k]} {n}', model.framed(name, replaced(name, good, k, n)))
         on_placed(f'{name}, reserved not zero', frame(name, good, reserved=255))
@@ -495,7 +557,7 @@ def inside(p, label, unit, places):
 
 def drives(p):
     """02, P5: reports of the drive among calls: each number at its edges, inside every command, and what they leave."""
-    for k, field in enumerate(ROWS['pos'][0]):
+    for k, field in enumerate(ROWS['pos'].fields):
         for n in edges(field):
             told = STOOD[:k] + [n] + STOOD[k + 1:]
             session(p, f'told {shown(told)}', (b'gpos', 7), (told, None), (b'gpos', 7))
@@ -540,7 +602,7 @@ def handed_out(p, label, *rooms):
 
 
 def refused_in(table):
-    """The same settings with one field out of its range, and its label."""
+    """The same settings with one number that is refused, and its label."""
     for block, k, n in REFUSED:
         at = model.place(block)
         yield f'{FIELDS[block][k]} {n}', table[:at.start] + replaced(block, SETS[block], k, n) + table[at.stop:]
@@ -549,11 +611,13 @@ def refused_in(table):
 def tables(p):
     """02, P10: the settings handed out, and taken back in other lengths, unsound, and as they were; then sets and gets on that board."""
     set_all(p)
-    handed_out(p, ' ', 0, TABLE - 1, TABLE, TABLE + 1)
+    before = model.place('ctl').start  # what a table had before 02, P6
+    handed_out(p, ' ', 0, before, TABLE - 1, TABLE, TABLE + 1)
     stored = bytes(p.board.table)
     for label, data in [
-            ('nothing', b''), ('one byte short', stored[:-1]), ('one byte more', stored + b'\0'), ('zeros, one too few', bytes(TABLE - 1)),
-            ('zeros', bytes(TABLE)), *refused_in(stored), ('fresh', bytes(Board().table)), ('as it was', stored)]:
+            ('nothing', b''), ('a table of before', stored[:before]), ('one byte short', stored[:-1]), ('one byte more', stored + b'\0'),
+            ('zeros, one too few', bytes(TABLE - 1)), ('zeros', bytes(TABLE)), *refused_in(stored), ('fresh', bytes(Board().table)),
+            ('as it was', stored)]:
         p.say(f'taken back, {label}')
         p.take_back(data)
         handed_out(p, ' ', TABLE)
@@ -601,11 +665,11 @@ def buffers(p):
             ('nothing', b'', FRAME), ('no reply', b'sto', FRAME), ('zero', b'\0', FRAME), ('errc', UNKNOWN, FRAME),
             ('errd', b'spwr' + bytes(16), FRAME), ('errv', SPWR, FRAME), ('set', frame('brk', SETS['brk']), FRAME), ('get', b'gpwr', FRAME),
             ('order', b'home\0', FRAME), ('move', frame('move', SETS['move']) + b'\0', FRAME), ('gpos', b'gpos', FRAME),
-            ('five replies', b'\0gpwr' + UNKNOWN + b'\0gbrk', 64), ('all of the room', b'gpid', FRAME),
-            ('one byte left', b'gpid\0\0', FRAME + 1), ('refused', b'stop', FRAME - 1), ('refused', b'x' * (PIECE + 1), FRAME)]:
+            ('five replies', b'\0gpwr' + UNKNOWN + b'\0gbrk', FRAME + 16), ('all of the room', b'gctl', FRAME),
+            ('one byte left', b'gctl\0\0', FRAME + 1), ('refused', b'stop', FRAME - 1), ('refused', b'x' * (PIECE + 1), FRAME)]:
         p.fresh()
         p.say(f'buffer, room {room}, {label}')
-        p.call(piece, room=room, show=80)
+        p.call(piece, room=room, show=FRAME + 32)
     p.fresh()
     p.hold(b'smov' + b'\xff' * (FRAME - 4), 4, 7)
     p.say('spare bytes')
@@ -629,7 +693,8 @@ def arithmetic(p):
 
 def main():
     p = Player()
-    for cases in (arithmetic, sheet, unsound, stops, blocks, fields, requests, refusals, reports, travels, zeros, drives, tables, reserved, buffers):
+    for cases in (arithmetic, sheet, unsound, stops, blocks, fields, pendant, requests, refusals, reports, travels, zeros, drives, tables, reserved,
+                  buffers):
         cases(p)
     folder = os.path.join(os.path.dirname(os.path.abspath(__file__)), '..', 'crates', 'player')
     store(folder, {'stdin': p.stdin, 'stdout': p.stdout.encode()})

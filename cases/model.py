@@ -1,24 +1,44 @@
 """The board and the host in Python, written from sheets 01 and 02 alone, for ./make.py and ../traces: it shares nothing with the crates."""
 import struct
+from typing import Callable, NamedTuple
 
-# A row is fields (format, least, most) or (format, BITS, known bits), and reserved bytes. The blocks by name, in 01's order
 ANY = None
 BITS = 'bits'
-BLOCKS = {
-    'mov': ([('I', 0, 100000), ('B', ANY), ('H', 1, 65535), ('H', 1, 65535), ('I', 0, 100000), ('B', ANY)], 10),
-    'eng': ([('H', ANY), ('H', 15, 8000), ('I', 1, 100000), ('B', ANY), ('H', BITS, 0xFF), ('h', ANY), ('B', 1, 9), ('H', 1, 65535)], 12),
-    'pwr': ([('B', 0, 100), ('H', ANY), ('H', ANY), ('H', ANY), ('B', BITS, 0x07)], 6),
-    'eds': ([('B', BITS, 0x0F), ('B', BITS, 0x07), ('i', ANY), ('h', -255, 255), ('i', ANY), ('h', -255, 255)], 6),
-    'hom': ([('I', 0, 100000), ('B', ANY), ('I', 0, 100000), ('B', ANY), ('i', ANY), ('h', -255, 255), ('H', BITS, 0x1FF)], 9),
-    'brk': ([('H', ANY), ('H', ANY), ('H', ANY), ('H', ANY), ('B', BITS, 0x03)], 10),
-    'pid': ([('H', ANY), ('H', ANY), ('H', ANY), ('F', ANY), ('F', ANY), ('F', ANY)], 24),
+
+
+class Row(NamedTuple):
+    """Fields (format, least, most) or (format, BITS, known bits), the count of reserved bytes, and a rule over the numbers of the fields."""
+    fields: list
+    reserved: int
+    rule: Callable = lambda numbers: True
+
+
+# 01's blocks by name, in its order: the host has these
+SHEET = {
+    'mov': Row([('I', 0, 100000), ('B', ANY), ('H', 1, 65535), ('H', 1, 65535), ('I', 0, 100000), ('B', ANY)], 10),
+    'eng': Row([('H', ANY), ('H', 15, 8000), ('I', 1, 100000), ('B', ANY), ('H', BITS, 0xFF), ('h', ANY), ('B', 1, 9), ('H', 1, 65535)], 12),
+    'pwr': Row([('B', 0, 100), ('H', ANY), ('H', ANY), ('H', ANY), ('B', BITS, 0x07)], 6),
+    'eds': Row([('B', BITS, 0x0F), ('B', BITS, 0x07), ('i', ANY), ('h', -255, 255), ('i', ANY), ('h', -255, 255)], 6),
+    'hom': Row([('I', 0, 100000), ('B', ANY), ('I', 0, 100000), ('B', ANY), ('i', ANY), ('h', -255, 255), ('H', BITS, 0x1FF)], 9),
+    'brk': Row([('H', ANY), ('H', ANY), ('H', ANY), ('H', ANY), ('B', BITS, 0x03)], 10),
+    'pid': Row([('H', ANY), ('H', ANY), ('H', ANY), ('F', ANY), ('F', ANY), ('F', ANY)], 24),
 }
 # 02, P5: the position, and the sets of blocks 8 to 10, by the set's own name
-POSITION = ([('i', ANY), ('h', -255, 255), ('q', ANY)], 6)
-TRAVEL = ([('i', ANY), ('h', -255, 255)], 6)
-TRAVELS = {'move': TRAVEL, 'movr': TRAVEL, 'spos': (POSITION[0] + [('B', BITS, 0x03)], 5)}
+POSITION = Row([('i', ANY), ('h', -255, 255), ('q', ANY)], 6)
+TRAVEL = Row([('i', ANY), ('h', -255, 255)], 6)
+TRAVELS = {'move': TRAVEL, 'movr': TRAVEL, 'spos': Row(POSITION.fields + [('B', BITS, 0x03)], 5)}
+# the blocks that 02 adds, from 11 on. P6: "array elements count as fields one by one"; "first speed and its part are not both zero,
+# low ≤ centre ≤ high"
+LATER = {
+    'ctl': Row([('I', 0, 100000)] * 10 + [('B', ANY)] * 10 + [('H', ANY)] * 9 + [('H', ANY), ('H', BITS, 0x0F), ('i', ANY), ('h', -255, 255)], 9,
+               lambda numbers: numbers[0] != 0 or numbers[10] != 0),
+    'joy': Row([('H', 0, 10000)] * 3 + [('B', ANY), ('B', ANY), ('B', BITS, 0x01)], 7,
+               lambda numbers: numbers[0] <= numbers[1] <= numbers[2]),
+}
+RULE = 99  # the field of a broken rule
+BLOCKS = {**SHEET, **LATER}  # what a board keeps
 ROWS = {**BLOCKS, 'pos': POSITION, **TRAVELS}
-NUMBERED = [*BLOCKS, *TRAVELS]
+NUMBERED = [*SHEET, *TRAVELS, *LATER]
 ORDERS = ['stop', 'sstp', 'pwof', 'left', 'rigt', 'home', 'loft']
 NO_ORDER = (0,)  # an order is its number, and the steps and microsteps that it carries
 ERRORS = ['errc', 'errd', 'errv']
@@ -51,7 +71,7 @@ def crc(data):
 
 
 def layout(name):  # a float is kept as its 32 bits
-    return '<' + ''.join(f[0] for f in ROWS[name][0]).replace('F', 'I')
+    return '<' + ''.join(f[0] for f in ROWS[name].fields).replace('F', 'I')
 
 
 def used(name):
@@ -61,7 +81,7 @@ def used(name):
 
 def size(name):
     """The bytes of its data section."""
-    return used(name) + ROWS[name][1]
+    return used(name) + ROWS[name].reserved
 
 
 def total(name):
@@ -69,6 +89,7 @@ def total(name):
 
 
 FRAME = max(map(total, ROWS))  # the longest frame, which is the least room and what the board can hold
+HOST_FRAME = max(map(total, SHEET))  # the longest that the host has
 
 
 def passes(field, n):
@@ -80,27 +101,29 @@ def passes(field, n):
 
 
 def first_bad(name, numbers):
-    """The number of the first field out of its range, or 0."""
-    return next((k + 1 for k, f in enumerate(ROWS[name][0]) if not passes(f, numbers[k])), 0)
+    """The number of the first field out of its range, or else RULE where the rule is broken, or else 0."""
+    row = ROWS[name]
+    return next((k + 1 for k, f in enumerate(row.fields) if not passes(f, numbers[k])), 0 if row.rule(numbers) else RULE)
 
 
 def fresh(name):
-    return [next(n for n in range(20) if passes(f, n)) for f in ROWS[name][0]]
+    numbers = [next(n for n in range(20) if passes(f, n)) for f in ROWS[name].fields]
+    return [1] + numbers[1:] if name == 'ctl' else numbers  # 02, P6: "the first speed is 1, the rest 0"
 
 
 def section(name, numbers, reserved=0):
-    return struct.pack(layout(name), *numbers) + bytes([reserved]) * ROWS[name][1]
+    return struct.pack(layout(name), *numbers) + bytes([reserved]) * ROWS[name].reserved
 
 
 def numbers_in(name, data):
     """The fields of a data section. Every NaN pattern is the one NaN."""
     numbers = struct.unpack_from(layout(name), data)
-    return [NAN if f[0] == 'F' and n % 2**31 > 0x7F800000 else n for f, n in zip(ROWS[name][0], numbers)]
+    return [NAN if f[0] == 'F' and n % 2**31 > 0x7F800000 else n for f, n in zip(ROWS[name].fields, numbers)]
 
 
 def cleaned(name, data):
     """A data section with its reserved bytes zero."""
-    return data[:used(name)] + bytes(ROWS[name][1])
+    return data[:used(name)] + bytes(ROWS[name].reserved)
 
 
 def place(name):
@@ -113,7 +136,7 @@ TABLE = sum(map(size, BLOCKS))
 
 
 def is_good(table):
-    """Whether every field of a table is in its range and every reserved byte zero."""
+    """Whether every field of a table is in its range, every rule kept and every reserved byte zero."""
     parts = [(name, table[place(name)]) for name in BLOCKS]
     return all(first_bad(name, numbers_in(name, data)) == 0 and data == cleaned(name, data) for name, data in parts)
 
@@ -292,13 +315,13 @@ def read(data):
     if len(data) < 4:
         return 5, 0, None, None
     name = data[:4].decode('latin1')
-    if name[0] == 'g' and name[1:] in BLOCKS:
+    if name[0] == 'g' and name[1:] in SHEET:
         size = total(name[1:])
         if len(data) < size:
             return 7, 0, None, None
         if crc(data[4:size - 2]) != data[size - 2:size]:
             return 8, 0, None, None
         return 0, size, name, section(name[1:], numbers_in(name[1:], data[4:]))
-    if name in ORDERS + ERRORS or name[0] == 's' and name[1:] in BLOCKS:
+    if name in ORDERS + ERRORS or name[0] == 's' and name[1:] in SHEET:
         return 0, 4, name, None
     return 6, 0, None, None

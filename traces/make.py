@@ -6,7 +6,7 @@ import sys
 
 sys.dont_write_bytecode = True
 from bench import bench, record
-from model import ANY, BITS, BLOCKS, ORDERS, frame, passes
+from model import ANY, BITS, BLOCKS, ORDERS, SHEET, frame, passes
 from store import store
 
 
@@ -34,10 +34,9 @@ def bad(field):
     return next((n for n in tries if not passes(field, n) and n < top), None)
 
 
-def every_unit(name):
-    """Get, set with reserved bytes, get, wrong CRC, each field out of range, get."""
-    fields, get = BLOCKS[name][0], b'g' + name.encode()
-    kept = [good(f, k) for k, f in enumerate(fields)]
+def every_unit(name, kept):
+    """Get, set of these numbers with reserved bytes, get, wrong CRC, each field out of range, get."""
+    fields, get = BLOCKS[name].fields, b'g' + name.encode()
     yield from [get, frame(name, kept, reserved=255), get]
     yield frame(name, [0 if f[1] in (ANY, BITS) else f[1] for f in fields], wrong=1)
     for k, field in enumerate(fields):
@@ -47,8 +46,8 @@ def every_unit(name):
 
 
 def units():
-    for name in BLOCKS:
-        yield from every_unit(name)
+    for name, row in SHEET.items():
+        yield from every_unit(name, [good(f, k) for k, f in enumerate(row.fields)])
     yield from [order.encode() for order in ORDERS]
     yield from [b'\0', b'righ', b't', b'errc', b'smow', b'gxyz', b's\0\0\0\0', b'STOP', b'stopleftxxxxhome\0gbrkloft', b'']
 
@@ -80,6 +79,30 @@ def moves():
     yield from [least[:9], least[9:], largest[:9]]
 
 
+CTL = [*range(100000, 0, -10000), *range(10), *range(1000, 10000, 1000), 30, 15, -32, 255]
+JOY = [100, 5000, 9900, 4, 5, 1]
+
+
+def pendant():
+    """02, P6: ctl and joy got, set, refused for a field, on both sides of their rules, and for a field beside a broken rule."""
+    yield from every_unit('ctl', CTL)
+    yield from every_unit('joy', JOY)
+    for speed, part in [(0, 0), (0, 1), (1, 0)]:
+        yield from [frame('ctl', [speed, *CTL[1:10], part, *CTL[11:]]), b'gctl']
+    for ends in [(5000, 5000, 5000), (5001, 5000, 5000), (5000, 5001, 5000), (0, 0, 10000), (0, 10000, 10000)]:
+        yield from [frame('joy', [*ends, *JOY[3:]]), b'gjoy']
+    yield from [frame('ctl', [0] * 32 + [256]), frame('joy', [2, 1, 10001, 0, 0, 0]), b'gctlgjoy']
+    # the replies of one record take two calls: the last gctl does not fit any more
+    yield frame('ctl', CTL) + frame('joy', JOY) + b'gctlgjoygctlgctlgjoy'
+
+
+def cuts(first, name, numbers, places):
+    """A set cut at each of these places by a wait of 400 ms, and of 401, then its get. The first number tells the sets apart."""
+    for k, (place, wait) in enumerate((place, wait) for place in places for wait in (400, 401)):
+        unit, start = frame(name, [k + 1, *numbers[1:]]), first + 3000 * k
+        yield from [record(start, unit[:place]), record(start + wait, unit[place:]), record(start + 2000, b'g' + name.encode())]
+
+
 WAITS = [(4294967200, b'st'), (304, b'op'), (4294967200, b'st'), (305, b'op'), (706, b'st'), (1106, b'op'), (2000, b'st'), (2401, b'\0'),
          (3000, b'st'), (3300, b''), (3401, b'op'), (3400, b'xx')]
 BEFORE, NEXT = record(1000, b'stop\0'), record(2000, b'left')
@@ -90,6 +113,7 @@ TRACES = {
     'units': joined(1000, 500, units()),
     'night': night(),
     'moves': joined(1000, 400, moves()),
+    'pendant': joined(1000, 500, pendant()) + b''.join([*cuts(100000, 'ctl', CTL, (2, 50, 92)), *cuts(200000, 'joy', JOY, (2, 10, 21))]),
     'waits': b''.join(record(*r) for r in WAITS),
     'pieces': joined(1000, 400, [SET[:1], SET[1:3], SET[3:5], b'', SET[5:24], SET[24:] + b'gb', b'rk']),
     'room': joined(1000, 500, [b'gpid' * 6, b'\0' * 250, b'gpid' * 5 + b'xxxxyyyy\0\0\0', b'gpid' * 60 + b'stop']),

@@ -1,4 +1,4 @@
-//! The blocks' fields as the library takes and gives them, out of a board's table and at the optimiser's end.
+//! The blocks' fields as the library gives them out of a board's table; the first seven it also takes and gives at the optimiser's end.
 
 /// Block 1.
 #[repr(C)]
@@ -93,6 +93,31 @@ impl PartialEq for Pid {
     }
 }
 
+/// Block 11. Each element of an array is a field of its own.
+#[repr(C)]
+#[derive(Clone, Copy, Default, PartialEq, Debug)]
+pub struct Ctl {
+    pub max_speed: [u32; 10],
+    pub u_max_speed: [u8; 10],
+    pub timeout: [u16; 9],
+    pub max_click_time: u16,
+    pub flags: u16,
+    pub delta_position: i32,
+    pub u_delta_position: i16,
+}
+
+/// Block 12.
+#[repr(C)]
+#[derive(Clone, Copy, Default, PartialEq, Debug)]
+pub struct Joy {
+    pub joy_low_end: u16,
+    pub joy_center: u16,
+    pub joy_high_end: u16,
+    pub exp_factor: u8,
+    pub dead_zone: u8,
+    pub joy_flags: u8,
+}
+
 macro_rules! views {
     ($($block:ident $view:ident $name:literal;)*) => {
         extern "C" {
@@ -114,13 +139,15 @@ macro_rules! views {
 
 // A library whose board is laid out in another way has another number in these names, and does not link.
 views! {
-    Mov rivertosku_mov "rivertosku_mov_3";
-    Eng rivertosku_eng "rivertosku_eng_3";
-    Pwr rivertosku_pwr "rivertosku_pwr_3";
-    Eds rivertosku_eds "rivertosku_eds_3";
-    Hom rivertosku_hom "rivertosku_hom_3";
-    Brk rivertosku_brk "rivertosku_brk_3";
-    Pid rivertosku_pid "rivertosku_pid_3";
+    Mov rivertosku_mov "rivertosku_mov_4";
+    Eng rivertosku_eng "rivertosku_eng_4";
+    Pwr rivertosku_pwr "rivertosku_pwr_4";
+    Eds rivertosku_eds "rivertosku_eds_4";
+    Hom rivertosku_hom "rivertosku_hom_4";
+    Brk rivertosku_brk "rivertosku_brk_4";
+    Pid rivertosku_pid "rivertosku_pid_4";
+    Ctl rivertosku_ctl "rivertosku_ctl_4";
+    Joy rivertosku_joy "rivertosku_joy_4";
 }
 
 #[cfg(test)]
@@ -128,10 +155,10 @@ mod tests {
     use super::*;
     use std::mem::size_of;
 
-    /// Each block in a table of which every byte tells its place, whole and cut, and in none.
+    /// Each block in a table of which every byte tells its place, or its place less 256, whole and cut, and in none.
     #[test]
     fn blocks_of_a_table() {
-        let table: Vec<u8> = (0..174).collect();
+        let table: Vec<u8> = (0..277).map(|place: u16| place as u8).collect();
         assert_eq!(
             Mov::of(&table),
             Mov { speed: 0x03020100, u_speed: 4, accel: 0x0605, decel: 0x0807, antiplay_speed: 0x0C0B0A09, u_antiplay_speed: 13 }
@@ -145,10 +172,36 @@ mod tests {
         assert_eq!((Hom::of(&table).fast_home, Hom::of(&table).home_flags), (0x59585756, 0x6766));
         assert_eq!(Brk::of(&table), Brk { t1: 0x7271, t2: 0x7473, t3: 0x7675, t4: 0x7877, brake_flags: 121 });
         assert_eq!((Pid::of(&table).kp_u, Pid::of(&table).kdf.to_bits()), (0x8584, 0x95949392));
+        let ctl = Ctl {
+            max_speed: std::array::from_fn(|i| 0xB1B0AFAE + 0x04040404 * i as u32),
+            u_max_speed: std::array::from_fn(|i| 214 + i as u8),
+            timeout: std::array::from_fn(|i| 0xE1E0 + 0x0202 * i as u16),
+            max_click_time: 0xF3F2,
+            flags: 0xF5F4,
+            delta_position: 0xF9F8F7F6_u32 as i32,
+            u_delta_position: 0xFBFA_u16 as i16,
+        };
+        assert_eq!(Ctl::of(&table), ctl);
+        assert_eq!(
+            Joy::of(&table),
+            Joy { joy_low_end: 0x0605, joy_center: 0x0807, joy_high_end: 0x0A09, exp_factor: 11, dead_zone: 12, joy_flags: 13 }
+        );
         assert_eq!(Brk::of(&table[..116]), Brk { t1: 0x7271, t2: 0x73, ..Brk::default() });
+        assert_eq!(Ctl::of(&table[..180]).max_speed, [0xB1B0AFAE, 0xB3B2, 0, 0, 0, 0, 0, 0, 0, 0]);
         assert_eq!((Mov::of(&[]), Pid::of(&table[..132])), (Mov::default(), Pid::default()));
         // SAFETY: as in `of`, but for the pointer under test: a null one is fine where the length is 0.
         assert_eq!(unsafe { rivertosku_hom(std::ptr::null(), 0) }, Hom::default());
+    }
+
+    /// The table above does not tell a place from the one 256 behind it. This one does: joy alone is read behind 255, and all of joy.
+    #[test]
+    fn blocks_behind_255() {
+        let table: Vec<u8> = (0..277).map(|place: u16| (place >> 8) as u8).collect();
+        assert_eq!((Mov::of(&table), Eng::of(&table), Pwr::of(&table)), (Mov::default(), Eng::default(), Pwr::default()));
+        assert_eq!((Eds::of(&table), Hom::of(&table), Brk::of(&table)), (Eds::default(), Hom::default(), Brk::default()));
+        assert_eq!((Pid::of(&table), Ctl::of(&table)), (Pid::default(), Ctl::default()));
+        let ones = Joy { joy_low_end: 0x0101, joy_center: 0x0101, joy_high_end: 0x0101, exp_factor: 1, dead_zone: 1, joy_flags: 1 };
+        assert_eq!(Joy::of(&table), ones);
     }
 
     /// The sizes that c/rivertosku.h asserts.
@@ -157,5 +210,6 @@ mod tests {
         let sizes =
             [size_of::<Mov>(), size_of::<Eng>(), size_of::<Pwr>(), size_of::<Eds>(), size_of::<Hom>(), size_of::<Brk>(), size_of::<Pid>()];
         assert_eq!(sizes, [20, 20, 10, 20, 24, 10, 20]);
+        assert_eq!([size_of::<Ctl>(), size_of::<Joy>()], [80, 10]);
     }
 }

@@ -4,17 +4,19 @@
 //! always sound.
 //! What a call took and wrote comes as slices: the rest that is to be offered again, and the reply.
 
-use crate::blocks::{Brk, Eds, Eng, Hom, Mov, Pid, Pwr};
+use crate::blocks::{Brk, Ctl, Eds, Eng, Hom, Joy, Mov, Pid, Pwr};
 use crate::position::{Microsteps, Position, Steps, Travel};
 
-/// The longest frame of a request, which is also the longest answer.
-pub const FRAME: usize = 48;
+/// The longest frame that a board takes, which is also its longest answer.
+pub const FRAME: usize = 93;
 /// The least room for replies that a call accepts: that of the longest answer.
 pub const ROOM: usize = FRAME;
 /// The longest piece that a call accepts.
 pub const PIECE: usize = 250;
-/// The bytes of all settings: the blocks 1 to 7, each as its get sends it without name and CRC.
-pub const TABLE: usize = 174;
+/// The bytes of all settings: the blocks 1 to 7, 11 and 12, each as its get sends it without name and CRC.
+pub const TABLE: usize = 277;
+/// Instead of a refused field's number: every field was in its range, but the rule over the block's fields was broken.
+pub const RULE: usize = 99;
 
 /// A board's settings: the blocks in number order, one behind the other, reserved bytes zero.
 #[repr(C)]
@@ -81,13 +83,13 @@ const _: () = assert!(usize::BITS == 64);
 
 extern "C" {
     // A library whose structs are laid out in another way has another number in these names, and does not link.
-    #[link_name = "rivertosku_fresh_3"]
+    #[link_name = "rivertosku_fresh_4"]
     fn rivertosku_fresh() -> Parts;
-    #[link_name = "rivertosku_judge_3"]
+    #[link_name = "rivertosku_judge_4"]
     fn rivertosku_judge(board: Parts) -> u8;
-    #[link_name = "rivertosku_same_3"]
+    #[link_name = "rivertosku_same_4"]
     fn rivertosku_same(a: Parts, b: Parts) -> u8;
-    #[link_name = "rivertosku_receive_3"]
+    #[link_name = "rivertosku_receive_4"]
     fn rivertosku_receive_lent(
         table: &mut [u8; TABLE],
         held: &mut [u8; FRAME],
@@ -98,13 +100,13 @@ extern "C" {
         reply: *mut u8,
         reply_len: usize,
     ) -> Answer;
-    #[link_name = "rivertosku_report_clock_3"]
+    #[link_name = "rivertosku_report_clock_4"]
     fn rivertosku_report_clock(board: Parts, now: u32) -> Report;
-    #[link_name = "rivertosku_report_position_3"]
+    #[link_name = "rivertosku_report_position_4"]
     fn rivertosku_report_position(board: Parts, position: Position) -> Report;
-    #[link_name = "rivertosku_hand_out_3"]
+    #[link_name = "rivertosku_hand_out_4"]
     fn rivertosku_hand_out(board: Parts, out: *mut u8, out_len: usize) -> u8;
-    #[link_name = "rivertosku_take_back_3"]
+    #[link_name = "rivertosku_take_back_4"]
     fn rivertosku_take_back(bytes: *const u8, bytes_len: usize) -> Report;
 }
 
@@ -311,7 +313,7 @@ impl Board {
     }
 
     /// A board with the settings of a table that was handed out, and everything else fresh. `AnotherLength`, tested first, or `Unsound`
-    /// where a field is out of its range or a reserved byte is not zero; the board is then a fresh one.
+    /// where a field is out of its range, a block's rule is broken or a reserved byte is not zero; the board is then a fresh one.
     pub fn take_back(bytes: &[u8]) -> (TableNumber, Board) {
         // SAFETY: the bytes are live and of this length; the library does not keep them.
         let report = unsafe { rivertosku_take_back(bytes.as_ptr(), bytes.len()) };
@@ -351,6 +353,14 @@ impl Board {
         Pid::of(self.table())
     }
 
+    pub fn ctl(&self) -> Ctl {
+        Ctl::of(self.table())
+    }
+
+    pub fn joy(&self) -> Joy {
+        Joy::of(self.table())
+    }
+
     /// As the drive, spos and zero left it.
     pub fn position(&self) -> Position {
         self.0.memory.position
@@ -361,7 +371,7 @@ impl Board {
         self.0.memory.notes.flags
     }
 
-    /// Block and field last refused, if any was.
+    /// Block and field last refused, if any was; or a block and `RULE`.
     pub fn last_refused(&self) -> Option<(usize, usize)> {
         match (self.0.memory.notes.block, self.0.memory.notes.field) {
             (0, 0) => None,
@@ -394,6 +404,7 @@ impl Board {
 mod tests {
     use super::*;
     use crate::position::Count;
+    use crate::second::crc;
     use std::mem::size_of;
 
     /// The sizes that c/rivertosku.h asserts. Shown by `cargo test sizes -- --nocapture`.
@@ -412,7 +423,7 @@ mod tests {
         // The table and the held bytes fill whole words.
         let memory = TABLE.next_multiple_of(8) + 24 + 16;
         let board = memory + FRAME.next_multiple_of(8) + 16;
-        assert_eq!((memory, board), (216, 280));
+        assert_eq!((memory, board), (320, 432));
         assert_eq!(sizes, [TABLE, 24, memory, board, 56, 80, 8 + board]);
     }
 
@@ -431,7 +442,7 @@ mod tests {
         // A spare byte plays no part; the bytes before it do.
         let spare = changed(&|parts| parts.held[4] = 1);
         assert!(spare != board && spare.same(&board) == Some(true));
-        let others: [&dyn Fn(&mut Parts); 17] = [
+        let others: [&dyn Fn(&mut Parts); 21] = [
             // mov's uAntiplaySpeed, eng's Antiplay, PowerFlags, eds's uRightBorder -1, HomeFlags, t4, and minus zero as Kdf
             &|parts| parts.memory.settings.bytes[13] = 1,
             &|parts| parts.memory.settings.bytes[35] = 1,
@@ -440,6 +451,11 @@ mod tests {
             &|parts| parts.memory.settings.bytes[103] = 1,
             &|parts| parts.memory.settings.bytes[120] = 0x80,
             &|parts| parts.memory.settings.bytes[149] = 0x80,
+            // ctl's first speed, last part and uDeltaPosition -1, JoyFlags
+            &|parts| parts.memory.settings.bytes[174] = 2,
+            &|parts| parts.memory.settings.bytes[223] = 1,
+            &|parts| parts.memory.settings.bytes[250..252].fill(0xFF),
+            &|parts| parts.memory.settings.bytes[269] = 1,
             &|parts| parts.memory.notes.flags = 1,
             &|parts| parts.memory.notes.block = 1,
             &|parts| parts.memory.notes.field = 1 << 32,
@@ -457,8 +473,8 @@ mod tests {
             assert_eq!(said, [Some(false), Some(false), Some(true)], "{other:?}");
         }
         // Another name that is no set's, flags over 7, microsteps past their range, counts past a unit and past the bytes held, a field
-        // out of its range, the first reserved byte and the last: unsound, and so is the comparison.
-        let unsound: [&dyn Fn(&mut Parts); 9] = [
+        // out of its range, the rules of ctl and of joy, the first reserved byte and the last: unsound, and so is the comparison.
+        let unsound: [&dyn Fn(&mut Parts); 11] = [
             &|parts| parts.held[3] = b's',
             &|parts| parts.memory.notes.flags = 8,
             &|parts| parts.memory.position.microsteps = Microsteps(-256),
@@ -466,8 +482,10 @@ mod tests {
             &|parts| parts.count = FRAME,
             &|parts| parts.count = usize::MAX,
             &|parts| parts.memory.settings.bytes[52] = 101,
+            &|parts| parts.memory.settings.bytes[174] = 0,
+            &|parts| parts.memory.settings.bytes[261] = 1,
             &|parts| parts.memory.settings.bytes[14] = 1,
-            &|parts| parts.memory.settings.bytes[173] = 0x80,
+            &|parts| parts.memory.settings.bytes[276] = 0x80,
         ];
         for change in unsound {
             let other = changed(change);
@@ -496,7 +514,7 @@ mod tests {
         for other in [&out[..], &out[..TABLE - 1], &[]] {
             assert_eq!(Board::take_back(other), (TableNumber::AnotherLength, Board::fresh()));
         }
-        for (at, byte) in [(52, 101), (14, 1), (173, 0x80)] {
+        for (at, byte) in [(52, 101), (174, 0), (261, 1), (14, 1), (276, 0x80)] {
             let mut parts = *board.parts();
             parts.memory.settings.bytes[at] = byte;
             let unsound = Board::from_parts(parts);
@@ -507,6 +525,51 @@ mod tests {
         }
         let unsound = Board::from_parts(Parts { count: FRAME, ..*board.parts() });
         assert_eq!(unsound.hand_out(&mut out), TableNumber::Unsound);
+    }
+
+    /// A frame of this data section, zeros behind its front.
+    fn frame(name: &[u8], front: &[u8], zeros: usize) -> Vec<u8> {
+        let data = [front, &vec![0; zeros]].concat();
+        [name, &data, &crc(&data).to_le_bytes()].concat()
+    }
+
+    /// ctl refused by its rule, then taken, and sent in the least room.
+    #[test]
+    fn speeds() {
+        let mut board = Board::fresh();
+        let mut room = [0; ROOM];
+        let first = |speed| Ctl { max_speed: [speed, 0, 0, 0, 0, 0, 0, 0, 0, 0], ..Ctl::default() };
+        assert_eq!(board.ctl(), first(1));
+        assert_eq!(board.receive(&frame(b"sctl", &[0, 0, 0, 0, 1], 82), 1000, &mut room).reply, b"errv");
+        assert_eq!((board.last_refused(), board.flags(), board.ctl()), (Some((11, RULE)), 4, first(1)));
+        assert_eq!(board.receive(&frame(b"sctl", &[0xFF, 0xFF], 85), 1000, &mut room).reply, b"sctl");
+        assert_eq!(board.ctl(), first(65535));
+        let call = board.receive(b"gctlgctl", 1000, &mut room);
+        assert_eq!((call.reply, call.rest), (&frame(b"gctl", &[0xFF, 0xFF], 85)[..], &b"l"[..]));
+        assert_eq!(board.receive(b"l", 1000, &mut room).reply.len(), ROOM);
+        // The part alone keeps the rule; of two that are broken the range comes first.
+        for (part, flags, refused) in [(255, 0, (11, RULE)), (0, 0, (11, RULE)), (0, 0x10, (11, 31))] {
+            let mut data = [0; 87];
+            (data[40], data[70]) = (part, flags);
+            let _ = board.receive(&frame(b"sctl", &data, 0), 1000, &mut room);
+            assert_eq!((board.last_refused(), board.ctl().u_max_speed[0]), (Some(refused), 255));
+        }
+    }
+
+    /// joy refused by a range and by its rule, then taken.
+    #[test]
+    fn joystick() {
+        let mut board = Board::fresh();
+        let mut room = [0; ROOM];
+        for (low, refused) in [([0xFF, 0xFF], (12, 1)), ([1, 0], (12, RULE))] {
+            assert_eq!(board.receive(&frame(b"sjoy", &low, 14), 1000, &mut room).reply, b"errv");
+            assert_eq!((board.last_refused(), board.joy()), (Some(refused), Joy::default()));
+        }
+        let front = [0xE8, 0x03, 0x88, 0x13, 0x28, 0x23, 0xFF, 0xFE, 0x01];
+        assert_eq!(board.receive(&frame(b"sjoy", &front, 7), 1000, &mut room).reply, b"sjoy");
+        let joy = Joy { joy_low_end: 1000, joy_center: 5000, joy_high_end: 9000, exp_factor: 255, dead_zone: 254, joy_flags: 1 };
+        assert_eq!(board.joy(), joy);
+        assert_eq!(board.receive(b"gjoy", 1000, &mut room).reply, frame(b"gjoy", &front, 7));
     }
 
     /// A null pointer is fine where the length is 0.

@@ -1,6 +1,6 @@
 //! The wrong receivers and hosts that a comparison has to catch. Each is the second receiver or host with one fault.
 
-use crate::table::{self, place, row, BLOCKS, MICRO, POSITION};
+use crate::table::{self, place, row, LAST, MICRO, POSITION, RULE};
 use std::ops::Range;
 
 macro_rules! faults {
@@ -42,6 +42,7 @@ faults! {
     FlagsOverwritten = "flags-overwritten",
     StampNotSet = "stamp-not-set",
     RoomOneOff = "room-one-off",
+    RoomOf01 = "room-of-01",
     FitOneOff = "fit-one-off",
     PieceOneOff = "piece-one-off",
     RefusalsExchanged = "refusals-exchanged",
@@ -55,14 +56,30 @@ faults! {
     KnownBitRefused = "known-bit-refused",
     UnknownBitMisnumbered = "unknown-bit-misnumbered",
     UnknownBitLast = "unknown-bit-last",
+    // The rules of ctl and joy, and the elements of ctl's arrays
+    RuleBeforeRanges = "rule-before-ranges",
+    RuleAs98 = "rule-as-98",
+    RuleAs1 = "rule-as-1",
+    RuleUntested = "rule-untested",
+    SpeedRuledAlone = "speed-ruled-alone",
+    PartRuledAlone = "part-ruled-alone",
+    LowBelowCentre = "low-below-centre",
+    LowUntested = "low-untested",
+    HighUntested = "high-untested",
+    TenthSpeedUntested = "tenth-speed-untested",
+    FreshSpeedZero = "fresh-speed-zero",
+    PutSpeedsExchanged = "put-speeds-exchanged",
+    PutPartsBehindTimeouts = "put-parts-behind-timeouts",
     // A state accepted that breaks one rule of soundness
     ZeroBegins = "unsound-zero-first",
     AnyNameBegins = "unsound-name",
     WholeSetBegins = "unsound-whole-set",
+    LongestHeld = "unsound-longest-held",
     CountOverFrame = "unsound-count",
     FlagsOver7 = "unsound-flags",
     FieldOutOfRange = "unsound-field",
     UnknownBit = "unsound-unknown-bit",
+    RuleBroken = "unsound-rule",
     ReservedNotZero = "unsound-reserved",
     FirstReservedUntested = "unsound-first-reserved",
     LastByteUntested = "unsound-last-byte",
@@ -98,6 +115,8 @@ faults! {
     ViewOneLater = "view-one-later",
     ViewWholeOrZeros = "view-whole-or-zeros",
     ViewFreshBehind = "view-fresh-behind",
+    ViewSpeedsExchanged = "view-speeds-exchanged",
+    ViewPartsBehindTimeouts = "view-parts-behind-timeouts",
     // A report of the time
     ReportSetsStamp = "report-sets-stamp",
     Report400TooLong = "report-400-too-long",
@@ -173,7 +192,7 @@ impl Fault {
         let reserved = &data[data.len() - row(block).reserved..];
         match self {
             Fault::FirstReservedUntested => &reserved[1..],
-            Fault::LastByteUntested if block == BLOCKS => &reserved[..reserved.len() - 1],
+            Fault::LastByteUntested if block == LAST => &reserved[..reserved.len() - 1],
             _ => reserved,
         }
     }
@@ -201,6 +220,19 @@ impl Fault {
         }
     }
 
+    /// What a receiver with this fault makes of ctl's data section in a put or a view, of which `exchanged` and `behind` are the faults.
+    #[inline(always)]
+    pub fn misplace(self, exchanged: Fault, behind: Fault, data: &mut [u8]) {
+        if self == exchanged {
+            // The second speed and the third
+            data[4..12].rotate_left(4);
+        }
+        if self == behind {
+            // Ten parts, nine timeouts
+            data[40..68].rotate_left(10);
+        }
+    }
+
     /// Whether a receiver with this fault finds a report's microsteps out of range.
     pub fn reported_wide(self, bytes: &[u8]) -> bool {
         match self {
@@ -225,16 +257,41 @@ impl Fault {
             // EngineFlags
             (Fault::UnknownBitLast, 2) => bad.sort_by_key(|&field| field == 5),
             // Microsteps
-            (Fault::Microsteps256Pass, 8..) if at_edge(&data[4..6], 256) => bad.retain(|&field| field != 2),
-            (Fault::Microsteps255Refused, 8..) if at_edge(&data[4..6], 255) => bad.insert(0, 2),
+            (Fault::Microsteps256Pass, 8..=10) if at_edge(&data[4..6], 256) => bad.retain(|&field| field != 2),
+            (Fault::Microsteps255Refused, 8..=10) if at_edge(&data[4..6], 255) => bad.insert(0, 2),
             (Fault::LeftMicrostepsUntested, 10) if data[POSITION] & 1 != 0 => bad.retain(|&field| field != 2),
             // The last field is blamed for reserved bytes
             (Fault::ReservedRefused, _) if data[row(set).used()..].iter().any(|&byte| byte != 0) => bad.push(row(set).fields.len()),
             // PosFlags
             (Fault::Flag4Passes, 10) if data[POSITION] & !0x07 == 0 => bad.retain(|&field| field != 4),
+            // The tenth speed
+            (Fault::TenthSpeedUntested, 11) => bad.retain(|&field| field != 10),
+            (_, 11 | 12) => self.misrule(set, data, &mut bad),
             _ => {}
         }
         bad.first().copied().unwrap_or(0)
+    }
+
+    /// The bad fields of ctl or joy, as far as a rule is concerned, for a receiver with this fault.
+    fn misrule(self, set: usize, data: &[u8], bad: &mut Vec<usize>) {
+        let number = |at: usize| u16::from_le_bytes([data[at], data[at + 1]]);
+        let kept = match (self, set) {
+            (Fault::RuleUntested, _) => true,
+            (Fault::SpeedRuledAlone, 11) => data[..4] != [0; 4],
+            (Fault::PartRuledAlone, 11) => data[40] != 0,
+            (Fault::LowBelowCentre, 12) => number(0) < number(2) && number(2) <= number(4),
+            (Fault::LowUntested, 12) => number(2) <= number(4),
+            (Fault::HighUntested, 12) => number(0) <= number(2),
+            _ => row(set).keeps_rules(data),
+        };
+        bad.retain(|&field| field != RULE);
+        match self {
+            _ if kept => {}
+            Fault::RuleBeforeRanges => bad.insert(0, RULE),
+            Fault::RuleAs98 => bad.push(98),
+            Fault::RuleAs1 => bad.push(1),
+            _ => bad.push(RULE),
+        }
     }
 }
 

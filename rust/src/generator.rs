@@ -1,7 +1,7 @@
 //! Random frames, good and nasty, from a seeded generator.
 
 use crate::second::crc;
-use crate::table::{place, row, Field, BLOCKS, GPOS, ORDERS, SETS, TABLE, ZERO};
+use crate::table::{place, row, Field, BLOCKS, GPOS, HOST_BLOCKS, ORDERS, SETS, TABLE, ZERO};
 
 /// The bench's reply room.
 pub const BENCH_ROOM: usize = 250;
@@ -104,12 +104,57 @@ fn bad(random: &mut Random, field: Field) -> Option<Vec<u8>> {
     }
 }
 
-/// A data section of a set: fields in range, then up to `wrong` of them out of it, and the reserved bytes.
+/// ctl's first speed and its part: one of them is not zero, if the rule is kept.
+fn first_speed(random: &mut Random, kept: bool) -> (u32, u8) {
+    let any = random.within(1, 100_000) as u32;
+    let speed = random.pick(&[1, 1 << 8, 1 << 16, 100_000, any]);
+    let part = random.pick(&[1, 0x80, 0xFF]);
+    match random.below(3) {
+        _ if !kept => (0, 0),
+        0 => (speed, 0),
+        1 => (0, part),
+        _ => (speed, part),
+    }
+}
+
+/// joy's low end, centre and high end, often two of them the same; in their sequence, if the rule is kept, else often just out of it.
+fn ends(random: &mut Random, kept: bool) -> [u16; 3] {
+    let any = random.within(1, 9999) as u16;
+    let centre = random.pick(&[1, 255, 256, 9999, any]);
+    if !kept {
+        return random.pick(&[[centre + 1, centre, 10_000], [0, centre, centre - 1], [10_000, centre, 0]]);
+    }
+    let mut ends = [0; 3].map(|_| random.pick(&[0, centre, centre, centre + 1, 10_000]));
+    ends.sort_unstable();
+    ends
+}
+
+/// The fields of a set, all of them in range; its rule, if it has one, kept or broken.
+fn fields(random: &mut Random, number: usize, kept: bool) -> Vec<Vec<u8>> {
+    let mut fields: Vec<_> = row(number).fields.iter().map(|&field| good(random, field)).collect();
+    match number {
+        11 => {
+            let (speed, part) = first_speed(random, kept);
+            (fields[0], fields[10]) = (speed.to_le_bytes().to_vec(), vec![part]);
+        }
+        12 => {
+            for (field, end) in fields.iter_mut().zip(ends(random, kept)) {
+                *field = end.to_le_bytes().to_vec();
+            }
+        }
+        _ => {}
+    }
+    fields
+}
+
+/// A data section of a set: fields in range and its rule kept, but for up to `wrong` fields out of range or, as one of these, a broken rule;
+/// and the reserved bytes.
 pub fn data(random: &mut Random, number: usize, wrong: usize) -> Vec<u8> {
     let row = row(number);
-    let mut fields: Vec<_> = row.fields.iter().map(|&f| good(random, f)).collect();
-    let mut left = wrong;
-    for _ in 0..100 * wrong {
+    let broken = wrong > 0 && !row.rules.is_empty() && random.percent(40);
+    let mut fields = fields(random, number, !broken);
+    let mut left = wrong - broken as usize;
+    for _ in 0..100 * left {
         let i = random.below(fields.len());
         if let Some(value) = bad(random, row.fields[i]) {
             fields[i] = value;
@@ -137,7 +182,7 @@ pub fn zero_data(random: &mut Random, number: usize) -> Vec<u8> {
     data
 }
 
-/// A data section as a board keeps it, reserved bytes zero, but for up to `wrong` fields out of range.
+/// A data section as a board keeps it, reserved bytes zero, but for up to `wrong` fields out of range or a broken rule.
 pub fn kept(random: &mut Random, block: usize, wrong: usize) -> Vec<u8> {
     let mut bytes = data(random, block, wrong);
     bytes[row(block).used()..].fill(0);
@@ -155,7 +200,7 @@ pub fn unclean(random: &mut Random, block: usize) -> Vec<u8> {
 
 /// The table of a sound board.
 pub fn sound_table(random: &mut Random) -> Vec<u8> {
-    (1..=BLOCKS).flat_map(|block| kept(random, block, 0)).collect()
+    BLOCKS.iter().flat_map(|&block| kept(random, block, 0)).collect()
 }
 
 /// What flash may have: a sound table, one with a block that is not, a bit tipped over, or bytes of another number.
@@ -179,12 +224,17 @@ pub type Draw<T> = fn(&mut Random) -> T;
 
 /// The number of any block.
 pub fn any_block(random: &mut Random) -> usize {
-    random.below(BLOCKS) + 1
+    random.pick(&BLOCKS)
 }
 
-/// The number of move, movr or spos.
-pub fn other_set(random: &mut Random) -> usize {
-    random.below(SETS - BLOCKS) + BLOCKS + 1
+/// The number of a block that a host knows.
+pub fn host_block(random: &mut Random) -> usize {
+    random.below(HOST_BLOCKS) + 1
+}
+
+/// The number of a set that no host writes: of move, movr, spos or a later block.
+pub fn outside_set(random: &mut Random) -> usize {
+    random.below(SETS - HOST_BLOCKS) + HOST_BLOCKS + 1
 }
 
 /// The number of any set.
@@ -198,7 +248,7 @@ pub fn good_set(random: &mut Random, of: Draw<usize>) -> Vec<u8> {
     row(number).set_frame(&data)
 }
 
-/// A set whose fields are out of range: one, or more of them.
+/// A set with fields out of range or its rule broken: one of these, or more.
 pub fn bad_set(random: &mut Random, of: Draw<usize>) -> Vec<u8> {
     let number = of(random);
     let wrong = random.pick(&[1, 1, 2, 3]);
@@ -240,9 +290,13 @@ pub fn order(random: &mut Random) -> Vec<u8> {
     random.pick(&ORDERS).to_vec()
 }
 
-/// gpos or zero.
-pub fn gpos_or_zero(random: &mut Random) -> Vec<u8> {
-    random.pick(&[GPOS, ZERO]).to_vec()
+/// A command without data that no host writes: gpos, zero, or the get of a later block.
+pub fn outside_get(random: &mut Random) -> Vec<u8> {
+    match random.below(4) {
+        0 => GPOS.to_vec(),
+        1 => ZERO.to_vec(),
+        _ => row(random.pick(&BLOCKS[HOST_BLOCKS..])).get(),
+    }
 }
 
 /// Any name of a block or an order.
@@ -257,8 +311,8 @@ pub fn name(random: &mut Random) -> Vec<u8> {
 /// Any name that is known.
 pub fn any_name(random: &mut Random) -> Vec<u8> {
     match random.below(4) {
-        0 => gpos_or_zero(random),
-        1 => row(other_set(random)).set.to_vec(),
+        0 => outside_get(random),
+        1 => row(outside_set(random)).set.to_vec(),
         _ => name(random),
     }
 }
@@ -309,7 +363,7 @@ mod tests {
     use super::*;
     use crate::fault::Fault;
     use crate::second::Second;
-    use crate::table::ROWS;
+    use crate::table::{ROWS, RULE};
 
     /// Sound tables are, and of those with a section that is not clean each reserved byte is the only cause at some time.
     #[test]
@@ -320,14 +374,36 @@ mod tests {
         for round in 0..10_000 {
             let mut table = sound_table(&mut random);
             assert_eq!(second(table.clone()).unsound_table(Fault::None), None);
-            let block = 1 + round % BLOCKS;
+            let block = BLOCKS[round % BLOCKS.len()];
             table[place(block)].copy_from_slice(&unclean(&mut random, block));
             assert_eq!(second(table.clone()).unsound_table(Fault::None), Some(Fault::ReservedNotZero));
             let from = place(block).start + row(block).used();
             let at = table[from..place(block).end].iter().position(|&byte| byte != 0).expect("a byte that is not zero");
             seen[from + at] = true;
         }
-        assert_eq!(seen.iter().filter(|&&seen| seen).count(), ROWS[..BLOCKS].iter().map(|row| row.reserved).sum());
+        assert_eq!(seen.iter().filter(|&&seen| seen).count(), BLOCKS.iter().map(|&block| row(block).reserved).sum());
+    }
+
+    /// With nothing wrong the rules are kept; with one thing it is at times the rule and at times a field; with two at times both.
+    #[test]
+    fn rules() {
+        let mut random = Random(1);
+        for number in [11, 12] {
+            let mut bad = |wrong| row(number).bad_fields(&data(&mut random, number, wrong));
+            assert!((0..3000).all(|_| bad(0).is_empty()));
+            let one: Vec<_> = (0..3000).map(|_| bad(1)).collect();
+            assert!(one.iter().all(|bad| !bad.is_empty()));
+            assert!(one.iter().filter(|bad| **bad == [RULE]).count() > 1000);
+            assert!(one.iter().filter(|bad| bad[0] < RULE).count() > 1000);
+            let two: Vec<_> = (0..3000).map(|_| bad(2)).collect();
+            assert!(two.iter().filter(|bad| bad.len() > 1 && bad.ends_with(&[RULE])).count() > 500);
+        }
+        // Each end equal to the centre and not; the first speed and its part each alone and together.
+        let kept: Vec<_> = (0..3000).map(|_| ends(&mut random, true)).collect();
+        let cases = [(true, true), (true, false), (false, true), (false, false)];
+        assert!(cases.iter().all(|&case| kept.iter().any(|&[low, centre, high]| (low == centre, centre == high) == case)));
+        let kept: Vec<_> = (0..3000).map(|_| first_speed(&mut random, true)).collect();
+        assert!(cases[1..].iter().all(|&case| kept.iter().any(|&(speed, part)| (speed == 0, part == 0) == case)));
     }
 
     fn number(bytes: &[u8]) -> u64 {

@@ -1,7 +1,9 @@
 //! The optimiser's end of the link, liboptimiser.a, behind safe types: a request is written as its frame, the board's answers are read.
 
 use crate::blocks::{Brk, Eds, Eng, Hom, Mov, Pid, Pwr};
-pub use crate::board::FRAME;
+
+/// The longest frame of a request, which is also the longest answer that is read.
+pub const FRAME: usize = 48;
 
 #[derive(Clone, Copy, PartialEq, Eq, Debug)]
 pub enum Block {
@@ -293,7 +295,7 @@ mod tests {
     fn numbers_of_nobody() {
         let mut out = [0xAA; FRAME];
         let (to, room) = (out.as_mut_ptr(), out.len());
-        for number in [0, 8, 255] {
+        for number in [0, 8, 11, 12, 255] {
             // SAFETY: as in `write`.
             let flat = unsafe {
                 [
@@ -348,7 +350,7 @@ mod tests {
 
     #[test]
     fn answers() {
-        let cases: [(&[u8], _); 11] = [
+        let cases: [(&[u8], _); 13] = [
             (b"\0", Ok((Answer::Zero, 1))),
             (b"\0mov", Ok((Answer::Zero, 1))),
             (b"smovs", Ok((Answer::SetEcho(Block::Mov), 4))),
@@ -360,6 +362,8 @@ mod tests {
             (b"gmo\0", Err(ReadRefusal::NoAnswer)),
             (b"move", Err(ReadRefusal::NoAnswer)),
             (b"zero", Err(ReadRefusal::NoAnswer)),
+            (b"sctl", Err(ReadRefusal::NoAnswer)),
+            (b"gjoy", Err(ReadRefusal::NoAnswer)),
         ];
         for (bytes, said) in cases {
             assert_eq!(read(bytes), said);

@@ -1,22 +1,22 @@
 //! Where the library meets the second receiver and host: the library's records and the second's bytes, each turned into the other, and
 //! what differs.
 
-use crate::blocks::{Brk, Eds, Eng, Hom, Mov, Pid, Pwr};
-use crate::board::{Board, Parts, TableNumber, TABLE};
+use crate::blocks::{Brk, Ctl, Eds, Eng, Hom, Joy, Mov, Pid, Pwr};
+use crate::board::{Board, Parts, TableNumber, FRAME, TABLE};
 use crate::fault::Fault;
-use crate::host::{self, Answer, Block, Blocks, Fields, Order, ReadRefusal, Request, WriteRefusal, FRAME};
+use crate::host::{self, Answer, Block, Blocks, Fields, Order, ReadRefusal, Request, WriteRefusal};
 use crate::position::{Position, Travel};
 use crate::second::Second;
 use crate::second_flash;
 use crate::second_host;
-use crate::table::{place, BLOCKS, POSITION, TRAVEL};
+use crate::table::{self, place, BLOCKS, HOST_FRAME, POSITION, TRAVEL};
+use std::fmt::Debug;
 
-// The rows of the second ones are to have the library's longest frame, and as many bytes of settings.
-const _: () = assert!(FRAME == crate::table::FRAME && TABLE == crate::table::TABLE);
+// The rows of the second ones are to have the library's longest frames, and as many bytes of settings.
+const _: () = assert!(FRAME == table::FRAME && TABLE == table::TABLE && host::FRAME == HOST_FRAME);
 
-/// A field on the wire, low byte first.
+/// A field on the wire, low byte first; or an array of them, one behind the other.
 trait Field {
-    fn write(&self, out: &mut Vec<u8>);
     /// Takes the field off the front of the bytes.
     fn read(&mut self, bytes: &mut &[u8]);
 }
@@ -24,10 +24,6 @@ trait Field {
 macro_rules! fields {
     ($($number:ty)*) => {
         $(impl Field for $number {
-            fn write(&self, out: &mut Vec<u8>) {
-                out.extend(self.to_le_bytes());
-            }
-
             fn read(&mut self, bytes: &mut &[u8]) {
                 let (front, rest) = bytes.split_first_chunk().expect("a whole data section");
                 *self = <$number>::from_le_bytes(*front);
@@ -37,25 +33,49 @@ macro_rules! fields {
     };
 }
 
-fields! { u8 u16 u32 i16 i32 i64 f32 }
+fields! { u8 u16 u32 i16 i32 f32 }
 
-macro_rules! each {
-    ($block:ident: $($field:ident)*) => { vec![$(&mut $block.$field),*] };
+impl<T: Field, const N: usize> Field for [T; N] {
+    fn read(&mut self, bytes: &mut &[u8]) {
+        self.iter_mut().for_each(|field| field.read(bytes));
+    }
 }
 
-/// A block's fields in numbered order.
-fn fields(blocks: &mut Blocks, block: usize) -> Vec<&mut dyn Field> {
-    let Blocks { mov, eng, pwr, eds, hom, brk, pid } = blocks;
-    match block {
-        1 => each!(mov: speed u_speed accel decel antiplay_speed u_antiplay_speed),
-        2 => each!(eng: nom_voltage nom_current nom_speed u_nom_speed engine_flags antiplay microstep_mode steps_per_rev),
-        3 => each!(pwr: hold_current curr_reduct_delay power_off_delay current_set_time power_flags),
-        4 => each!(eds: border_flags ender_flags left_border u_left_border right_border u_right_border),
-        5 => each!(hom: fast_home u_fast_home slow_home u_slow_home home_delta u_home_delta home_flags),
-        6 => each!(brk: t1 t2 t3 t4 brake_flags),
-        7 => each!(pid: kp_u ki_u kd_u kpf kif kdf),
-        _ => unreachable!("seven blocks"),
+/// A block's record.
+trait Record: Default + PartialEq + Debug {
+    /// Its fields in numbered order.
+    fn fields(&mut self) -> Vec<&mut dyn Field>;
+
+    /// The record of a data section, in range or not.
+    fn of_section(mut data: &[u8]) -> Self {
+        let mut record = Self::default();
+        for field in record.fields() {
+            field.read(&mut data);
+        }
+        record
     }
+}
+
+macro_rules! records {
+    ($($block:ident: $($field:ident)*;)*) => {
+        $(impl Record for $block {
+            fn fields(&mut self) -> Vec<&mut dyn Field> {
+                vec![$(&mut self.$field),*]
+            }
+        })*
+    };
+}
+
+records! {
+    Mov: speed u_speed accel decel antiplay_speed u_antiplay_speed;
+    Eng: nom_voltage nom_current nom_speed u_nom_speed engine_flags antiplay microstep_mode steps_per_rev;
+    Pwr: hold_current curr_reduct_delay power_off_delay current_set_time power_flags;
+    Eds: border_flags ender_flags left_border u_left_border right_border u_right_border;
+    Hom: fast_home u_fast_home slow_home u_slow_home home_delta u_home_delta home_flags;
+    Brk: t1 t2 t3 t4 brake_flags;
+    Pid: kp_u ki_u kd_u kpf kif kdf;
+    Ctl: max_speed u_max_speed timeout max_click_time flags delta_position u_delta_position;
+    Joy: joy_low_end joy_center joy_high_end exp_factor dead_zone joy_flags;
 }
 
 /// The board's settings as the host's blocks.
@@ -63,28 +83,17 @@ pub fn blocks_of(board: &Board) -> Blocks {
     Blocks { mov: board.mov(), eng: board.eng(), pwr: board.pwr(), eds: board.eds(), hom: board.hom(), brk: board.brk(), pid: board.pid() }
 }
 
-/// These fields one behind the other.
-fn bytes_of<const N: usize>(fields: &[&mut dyn Field]) -> [u8; N] {
-    let mut bytes = Vec::with_capacity(N);
-    for field in fields {
-        field.write(&mut bytes);
-    }
-    bytes.try_into().expect("as many bytes as the fields have")
+/// These numbers one behind the other.
+fn joined<const N: usize>(numbers: &[&[u8]]) -> [u8; N] {
+    numbers.concat().try_into().expect("as many bytes as the numbers have")
 }
 
-pub fn travel_bytes(mut travel: Travel) -> [u8; TRAVEL] {
-    bytes_of(&[&mut travel.steps.0, &mut travel.microsteps.0])
+pub fn travel_bytes(travel: Travel) -> [u8; TRAVEL] {
+    joined(&[&travel.steps.0.to_le_bytes(), &travel.microsteps.0.to_le_bytes()])
 }
 
-pub fn position_bytes(mut position: Position) -> [u8; POSITION] {
-    bytes_of(&[&mut position.steps.0, &mut position.microsteps.0, &mut position.count.0])
-}
-
-/// Puts a data section among the blocks, in range or not.
-fn put_fields(blocks: &mut Blocks, block: usize, mut data: &[u8]) {
-    for field in fields(blocks, block) {
-        field.read(&mut data);
-    }
+pub fn position_bytes(position: Position) -> [u8; POSITION] {
+    joined(&[&position.steps.0.to_le_bytes(), &position.microsteps.0.to_le_bytes(), &position.count.0.to_le_bytes()])
 }
 
 /// Puts a data section into a board's table, in range or not, reserved bytes zero or not.
@@ -111,7 +120,7 @@ pub fn second_of(parts: &Parts) -> Second {
 /// In what the two states differ, if they do. Bytes behind the unfinished ones are no part of a state.
 pub fn difference(board: &Board, second: &Second) -> Option<String> {
     let parts = board.parts();
-    for block in 1..=BLOCKS {
+    for block in BLOCKS {
         let (a, b) = (&board.table()[place(block)], &second.table[place(block)]);
         if a != b {
             return Some(format!("block {block}: library {a:02x?}, second {b:02x?}"));
@@ -146,29 +155,33 @@ fn order_numbered(number: usize) -> Order {
     Order::numbered(number as u8).expect("seven orders")
 }
 
-/// The fields of a block that a data section holds.
+/// The fields of one of the host's blocks that a data section holds.
 fn fields_in(number: usize, data: &[u8]) -> Fields {
-    let mut blocks = Blocks::default();
-    put_fields(&mut blocks, number, data);
-    Fields::of(&blocks, block_numbered(number))
+    match block_numbered(number) {
+        Block::Mov => Fields::Mov(Mov::of_section(data)),
+        Block::Eng => Fields::Eng(Eng::of_section(data)),
+        Block::Pwr => Fields::Pwr(Pwr::of_section(data)),
+        Block::Eds => Fields::Eds(Eds::of_section(data)),
+        Block::Hom => Fields::Hom(Hom::of_section(data)),
+        Block::Brk => Fields::Brk(Brk::of_section(data)),
+        Block::Pid => Fields::Pid(Pid::of_section(data)),
+    }
 }
 
 /// One NaN for all, since the machine bits of a NaN are not promised.
-fn one_nan(mut fields: Fields) -> Fields {
-    if let Fields::Pid(pid) = &mut fields {
-        for gain in [&mut pid.kpf, &mut pid.kif, &mut pid.kdf] {
-            if gain.is_nan() {
-                *gain = f32::NAN;
-            }
+fn one_nan(mut pid: Pid) -> Pid {
+    for gain in [&mut pid.kpf, &mut pid.kif, &mut pid.kdf] {
+        if gain.is_nan() {
+            *gain = f32::NAN;
         }
     }
-    fields
+    pid
 }
 
 /// The same in an answer.
 fn one_nan_read(answer: Answer) -> Answer {
     match answer {
-        Answer::Data(fields) => Answer::Data(one_nan(fields)),
+        Answer::Data(Fields::Pid(pid)) => Answer::Data(Fields::Pid(one_nan(pid))),
         _ => answer,
     }
 }
@@ -204,7 +217,7 @@ pub fn buffers<const N: usize>(salt: usize) -> ([u8; N], [u8; N]) {
 /// Both hosts write a request into this much room: the frame or the refusal, or in what they differ.
 pub fn write(request: &second_host::Request, room: usize, fault: Fault, salt: usize) -> Result<Result<Vec<u8>, WriteRefusal>, String> {
     // The buffer goes on behind the room, to see that nothing is written there.
-    let (mut ours, mut theirs) = buffers::<{ FRAME + 32 }>(salt);
+    let (mut ours, mut theirs) = buffers::<{ HOST_FRAME + 32 }>(salt);
     let a = host::write(&request_of(request), &mut ours[..room]);
     let b = second_host::write(fault, request, &mut theirs[..room]);
     if a.map_err(|refusal| refusal as u8) != b {
@@ -264,26 +277,29 @@ pub fn take_back(bytes: &[u8], fault: Fault) -> Result<(TableNumber, Board, Seco
     Ok((number, board, second))
 }
 
-/// A block's fields as the library has them of a table.
-fn viewed(table: &[u8], block: Block) -> Fields {
-    match block {
-        Block::Mov => Fields::Mov(Mov::of(table)),
-        Block::Eng => Fields::Eng(Eng::of(table)),
-        Block::Pwr => Fields::Pwr(Pwr::of(table)),
-        Block::Eds => Fields::Eds(Eds::of(table)),
-        Block::Hom => Fields::Hom(Hom::of(table)),
-        Block::Brk => Fields::Brk(Brk::of(table)),
-        Block::Pid => Fields::Pid(Pid::of(table)),
-    }
+/// In what the library's record differs from the second's, if it does.
+fn apart<R: Record>(ours: R, theirs: R) -> Option<String> {
+    (ours != theirs).then(|| format!("library {ours:?}, second {theirs:?}"))
 }
 
 /// Both look at each block of a table, whole or not: in what they differ.
 pub fn view(table: &[u8], fault: Fault) -> Result<(), String> {
-    for number in 1..=BLOCKS {
-        let a = one_nan(viewed(table, block_numbered(number)));
-        let b = one_nan(fields_in(number, &second_flash::view(fault, table, number)));
-        if a != b {
-            return Err(format!("block {number} of {table:02x?}: library {a:?}, second {b:?}"));
+    for number in BLOCKS {
+        let section = &second_flash::view(fault, table, number)[..];
+        let said = match number {
+            1 => apart(Mov::of(table), Mov::of_section(section)),
+            2 => apart(Eng::of(table), Eng::of_section(section)),
+            3 => apart(Pwr::of(table), Pwr::of_section(section)),
+            4 => apart(Eds::of(table), Eds::of_section(section)),
+            5 => apart(Hom::of(table), Hom::of_section(section)),
+            6 => apart(Brk::of(table), Brk::of_section(section)),
+            7 => apart(one_nan(Pid::of(table)), one_nan(Pid::of_section(section))),
+            11 => apart(Ctl::of(table), Ctl::of_section(section)),
+            12 => apart(Joy::of(table), Joy::of_section(section)),
+            _ => unreachable!("nine blocks"),
+        };
+        if let Some(text) = said {
+            return Err(format!("block {number} of {table:02x?}: {text}"));
         }
     }
     Ok(())

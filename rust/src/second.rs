@@ -3,7 +3,7 @@
 //! It can be broken on purpose (`Fault`), to see that a comparison notices.
 
 use crate::fault::Fault;
-use crate::table::{self, place, row, BLOCKS, DATA, FRAME, GPOS, GPOS_TOTAL, MICRO, POSITION, TABLE, TOTAL, TRAVEL, ZERO};
+use crate::table::{self, place, row, BLOCKS, DATA, FRAME, GPOS, GPOS_TOTAL, HOST_FRAME, MICRO, POSITION, TABLE, TOTAL, TRAVEL, ZERO};
 
 /// 01's longest piece, and the longest wait inside a unit.
 const PIECE: usize = 250;
@@ -116,9 +116,12 @@ impl Second {
     /// A fresh receiver that is wrong in one place.
     pub fn broken_fresh(fault: Fault) -> Second {
         let mut table = [0; TABLE];
-        for block in 1..=BLOCKS {
+        for block in BLOCKS {
             let fresh = row(block).fresh();
             table[place(block)][..fresh.len()].copy_from_slice(&fresh);
+        }
+        if fault == Fault::FreshSpeedZero {
+            table[place(11)][0] = 0;
         }
         let mut position = [0; POSITION];
         if fault == Fault::FreshPosition {
@@ -165,7 +168,9 @@ impl Second {
             1..=3 if self.unit[0] == 0 => return Some(Fault::ZeroBegins),
             1..=3 => {}
             4..=FRAME => match self.name() {
-                Meaning::Set(set) if self.len >= TOTAL[set - 1] => return Some(Fault::WholeSetBegins),
+                Meaning::Set(set) if self.len >= TOTAL[set - 1] => {
+                    return Some(if self.len == FRAME { Fault::LongestHeld } else { Fault::WholeSetBegins });
+                }
                 Meaning::Set(_) => {}
                 _ => return Some(Fault::AnyNameBegins),
             },
@@ -190,12 +195,15 @@ impl Second {
     }
 
     fn broken_rule(&self, fault: Fault) -> Option<Fault> {
-        for block in 1..=BLOCKS {
+        for block in BLOCKS {
             let data = &self.table[place(block)];
             let bad = fault.bad_field(block, data);
             if bad != 0 {
-                let flags = row(block).fields[bad - 1].has_flags();
-                return Some(if flags { Fault::UnknownBit } else { Fault::FieldOutOfRange });
+                return Some(match row(block).fields.get(bad - 1) {
+                    Some(field) if field.has_flags() => Fault::UnknownBit,
+                    Some(_) => Fault::FieldOutOfRange,
+                    None => Fault::RuleBroken,
+                });
             }
             if fault.reserved(block, data).iter().any(|&byte| byte != 0) {
                 return Some(Fault::ReservedNotZero);
@@ -278,7 +286,12 @@ impl Second {
     #[inline(always)]
     fn refusal(&self, fault: Fault, piece: usize, room: usize) -> Option<u8> {
         let long = piece > if fault == Fault::PieceOneOff { PIECE - 1 } else { PIECE };
-        let short = room < if fault == Fault::RoomOneOff { FRAME - 1 } else { FRAME };
+        let least = match fault {
+            Fault::RoomOneOff => FRAME - 1,
+            Fault::RoomOf01 => HOST_FRAME,
+            _ => FRAME,
+        };
+        let short = room < least;
         if fault == Fault::RefusesEachCall {
             return Some(3);
         }
@@ -397,7 +410,7 @@ impl Second {
         }
         self.unit[at] = byte;
         self.len = at + 1;
-        if fault == Fault::StoredAsTheyCome && at >= 4 && begun <= BLOCKS && at < 4 + row(begun).used() {
+        if fault == Fault::StoredAsTheyCome && at >= 4 && BLOCKS.contains(&begun) && at < 4 + row(begun).used() {
             self.table[place(begun)][at - 4] = byte;
         }
     }
@@ -496,7 +509,7 @@ impl Second {
         if bad != 0 {
             self.raise(fault, 4);
             self.refused = (if fault == Fault::MovrRefusedAsMove && set == 9 { 8 } else { set }, bad);
-            if fault == Fault::HalfASetting && set <= BLOCKS {
+            if fault == Fault::HalfASetting && BLOCKS.contains(&set) {
                 let half = row(set).used() / 2;
                 self.table[place(set)][..half].copy_from_slice(&section[..half]);
             }
@@ -524,12 +537,15 @@ impl Second {
             _ => used,
         };
         let at = fault.place(block, Fault::PutElsewhere, Fault::PutOneLater);
-        if fault == Fault::PutOneOver && block < BLOCKS {
+        if fault == Fault::PutOneOver && at.end < TABLE {
             self.table[at.end] = 0;
         }
         let to = &mut self.table[at];
         to[..kept].copy_from_slice(&section[..kept]);
         to[kept.max(used)..].fill(0);
+        if block == 11 {
+            fault.misplace(Fault::PutSpeedsExchanged, Fault::PutPartsBehindTimeouts, to);
+        }
     }
 
     /// An accepted move or movr.
@@ -615,8 +631,16 @@ mod tests {
     #[test]
     fn flag_bits() {
         // Block, field, its place and bits, the known ones.
-        let flags =
-            [(2, 5, 9, 16, 0xFF), (3, 5, 7, 8, 0x07), (4, 1, 0, 8, 0x0F), (4, 2, 1, 8, 0x07), (5, 7, 16, 16, 0x1FF), (6, 5, 8, 8, 0x03)];
+        let flags = [
+            (2, 5, 9, 16, 0xFF),
+            (3, 5, 7, 8, 0x07),
+            (4, 1, 0, 8, 0x0F),
+            (4, 2, 1, 8, 0x07),
+            (5, 7, 16, 16, 0x1FF),
+            (6, 5, 8, 8, 0x03),
+            (11, 31, 70, 16, 0x0F),
+            (12, 6, 8, 8, 0x01),
+        ];
         for (block, field, at, bits, known) in flags {
             for bit in 0..bits {
                 let mut second = Second::fresh();
@@ -633,7 +657,7 @@ mod tests {
     #[test]
     fn one_table() {
         let mut second = Second::fresh();
-        for block in 1..=BLOCKS {
+        for block in BLOCKS {
             let before = second.table;
             let section = [row(block).fresh(), vec![block as u8; row(block).reserved]].concat();
             assert_eq!(offer(&mut second, &row(block).set_frame(&section), 0).0, row(block).set);
@@ -644,7 +668,7 @@ mod tests {
         table[113..115].fill(0xFF);
         assert_eq!(second.table, table);
         let mut reserved = 0;
-        for block in 1..=BLOCKS {
+        for block in BLOCKS {
             for at in place(block).skip(row(block).used()) {
                 let mut second = second.clone();
                 second.table[at] = 1;
@@ -652,7 +676,7 @@ mod tests {
                 reserved += 1;
             }
         }
-        assert_eq!(reserved, 77);
+        assert_eq!(reserved, 93);
     }
 
     /// Written out or by a loop, the soundness of a table is the same.
@@ -793,6 +817,31 @@ mod tests {
         }
     }
 
+    /// ctl refused by its rule, which is looked at behind the ranges and stores nothing; taken, sent in the least room, and the rule of a state.
+    #[test]
+    fn pendant() {
+        let mut second = Second::fresh();
+        // A first speed of 0 and a second that makes the CRC 0; then flags of 0x10 besides, and the CRC of that.
+        let zero = set(b"sctl", &[0, 0, 0, 0, 0x00, 0x24], 81, [0, 0]);
+        assert_eq!(offer(&mut second, &zero, 0), (b"errv".to_vec(), vec![]));
+        assert_eq!((second.refused, second.flags, &second.table), ((11, 99), 4, &Second::fresh().table));
+        let mut data = zero[4..91].to_vec();
+        data[70] = 0x10;
+        assert_eq!(offer(&mut second, &row(11).set_frame(&data), 0).0, b"errv");
+        assert_eq!(second.refused, (11, 31));
+        let fast = set(b"sctl", &[0xFF; 2], 85, [0, 0]);
+        assert_eq!(offer(&mut second, &fast[..92], 0), (vec![], vec![]));
+        assert_eq!((second.len, offer(&mut second, &fast[92..], 0).0), (92, b"sctl".to_vec()));
+        assert_eq!(offer(&mut second, b"gctl", 0).0, set(b"gctl", &[0xFF; 2], 85, [0, 0]));
+        second.table[place(11)][..2].fill(0);
+        assert_eq!(second.call(b"", 0, &mut [0; FRAME]).number, 3);
+        // The part alone keeps the rule.
+        second.table[place(11)][40] = 1;
+        assert_eq!(second.call(b"", 0, &mut [0; FRAME]).number, 0);
+        second.table[place(12)][0] = 1;
+        assert_eq!(second.call(b"", 0, &mut [0; FRAME]).number, 3);
+    }
+
     #[test]
     fn refusals() {
         let mut second = Second::fresh();
@@ -801,6 +850,12 @@ mod tests {
         assert_eq!(second.call(&[0; PIECE + 1], 0, room).number, 1);
         assert_eq!(second.call(&[0; PIECE], 0, short).number, 2);
         assert_eq!(second.call(b"gpidgpid", 0, room).taken, 7);
+        assert_eq!((room.len(), second.call(b"", 0, short).number), (93, 2));
+        for held in [FRAME - 1, FRAME] {
+            let mut second = Second { len: held, ..Second::fresh() };
+            second.unit[..4].copy_from_slice(b"sctl");
+            assert_eq!(second.call(b"", 0, room).number, if held < FRAME { 0 } else { 3 });
+        }
         let mut unsound = Second { len: 1, ..Second::fresh() };
         assert_eq!(unsound.call(b"", 0, room).number, 3);
         assert_eq!(unsound.call(b"", 0, short).number, 2);

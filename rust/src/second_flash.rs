@@ -75,7 +75,7 @@ impl Second {
 
     /// Makes reserved bytes zero.
     fn clean(&mut self) {
-        for block in 1..=BLOCKS {
+        for block in BLOCKS {
             self.table[place(block)][row(block).used()..].fill(0);
         }
     }
@@ -90,10 +90,14 @@ pub fn view(fault: Fault, table: &[u8], block: usize) -> Vec<u8> {
         Fault::ViewFreshBehind => fresh[at],
         _ => 0,
     };
-    match fault {
+    let mut section: Vec<u8> = match fault {
         Fault::ViewWholeOrZeros if !whole => vec![0; row(block).length()],
         _ => places.map(|at| table.get(at).copied().unwrap_or_else(|| behind(at))).collect(),
+    };
+    if block == 11 {
+        fault.misplace(Fault::ViewSpeedsExchanged, Fault::ViewPartsBehindTimeouts, &mut section);
     }
+    section
 }
 
 #[cfg(test)]
@@ -103,7 +107,8 @@ mod tests {
     /// A second receiver whose table, stamp, flags and position are not fresh.
     fn used() -> Second {
         let mut second = Second { flags: 7, stamp: 9, position: [1, 0, 0, 0, 1, 0, 1, 0, 0, 0, 0, 0, 0, 0], ..Second::fresh() };
-        (1..=BLOCKS).for_each(|block| second.table[place(block)][0] = 1);
+        // The first field of each, but joy's high end.
+        BLOCKS.iter().for_each(|&block| second.table[place(block)][if block == 12 { 4 } else { 0 }] = 2);
         second
     }
 
@@ -119,8 +124,8 @@ mod tests {
         for other in [&out[..], &out[..TABLE - 1], &[]] {
             assert_eq!(Second::take_back(Fault::None, other), (1, Second::fresh()));
         }
-        // pwr's HoldCurrent, mov's first reserved byte, the last byte of the table.
-        for (at, byte) in [(52, 101), (14, 1), (173, 0x80)] {
+        // pwr's HoldCurrent, mov's first reserved byte, pid's last; ctl's rule, the last byte of the table.
+        for (at, byte) in [(52, 101), (14, 1), (173, 0x80), (174, 0), (276, 0x80)] {
             let mut unsound = second.clone();
             unsound.table[at] = byte;
             let mut out = [0xAA; TABLE];
@@ -133,15 +138,18 @@ mod tests {
         assert_eq!(unsound.hand_out(Fault::None, &mut [0; TABLE]), 3);
     }
 
+    /// Each block in a table of the low bytes of all places, and in one of the high bytes: together they tell a byte's place.
     #[test]
     fn views() {
-        let table: Vec<u8> = (0..TABLE as u8).collect();
-        for block in 1..=BLOCKS {
-            let section: Vec<u8> = place(block).map(|at| at as u8).collect();
-            assert_eq!(view(Fault::None, &table, block), section);
-            let half = place(block).start + 5;
-            assert_eq!(view(Fault::None, &table[..half], block), [&section[..5], &vec![0; section.len() - 5]].concat());
-            assert_eq!(view(Fault::None, &[], block), vec![0; section.len()]);
+        for byte in [|at: usize| at as u8, |at: usize| (at >> 8) as u8] {
+            let table: Vec<u8> = (0..TABLE).map(byte).collect();
+            for block in BLOCKS {
+                let section: Vec<u8> = place(block).map(byte).collect();
+                assert_eq!(view(Fault::None, &table, block), section);
+                let half = place(block).start + 5;
+                assert_eq!(view(Fault::None, &table[..half], block), [&section[..5], &vec![0; section.len() - 5]].concat());
+                assert_eq!(view(Fault::None, &[], block), vec![0; section.len()]);
+            }
         }
     }
 }

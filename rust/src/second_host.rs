@@ -3,7 +3,7 @@
 //! It can be broken on purpose (`Fault`), to see that a comparison notices.
 
 use crate::fault::Fault;
-use crate::table::{get_named, order_named, row, set_named, BLOCKS, ORDERS};
+use crate::table::{get_named, order_named, row, set_named, HOST_BLOCKS, ORDERS};
 
 /// Reserved bytes in the data section of a set count for nothing.
 #[derive(Clone, PartialEq, Debug)]
@@ -112,8 +112,8 @@ pub fn read(fault: Fault, bytes: &[u8]) -> Result<(Answer, usize), u8> {
     }
     let Some(name) = bytes.first_chunk::<4>() else { return Err(5) };
     // "later commands stay outside"
-    let set = set_named(name).filter(|&number| number <= BLOCKS);
-    let answer = match (name, get_named(name), set, order_named(name)) {
+    let inside = |number: &usize| *number <= HOST_BLOCKS;
+    let answer = match (name, get_named(name).filter(inside), set_named(name).filter(inside), order_named(name)) {
         (b"errc", ..) => Answer::Errc,
         (b"errd", ..) => Answer::Errd,
         (b"errv", ..) => Answer::Errv,
@@ -182,7 +182,7 @@ mod tests {
     fn reads() {
         let data = brake_frame(b'g');
         let damaged = [&data[..24], &[1]].concat();
-        let cases: [(&[u8], _); 10] = [
+        let cases: [(&[u8], _); 12] = [
             (&[0], Ok((Answer::Zero, 1))),
             (b"errvx", Ok((Answer::Errv, 4))),
             (b"shom", Ok((Answer::SetEcho(5), 4))),
@@ -191,6 +191,8 @@ mod tests {
             (b"gxyz", Err(6)),
             (b"move", Err(6)),
             (b"gpos", Err(6)),
+            (b"sctl", Err(6)),
+            (b"gjoy", Err(6)),
             (&data[..24], Err(7)),
             (&damaged, Err(8)),
         ];

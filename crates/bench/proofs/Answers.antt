@@ -6,7 +6,7 @@ use native.Mathlib.Omega.{arith}
 use lib.ListN.{length, take, length-append}
 use lib.Seq.{length-take-le}
 use Rattle.rule.specs.Calls.{Called}
-use Rattle.names.specs.declared.Order.{Order}
+use Rattle.orders.specs.declared.Order.{Order}
 use Rattle.unit.specs.declared.Memory.{Memory}
 use Rattle.state.specs.Returned.{Returned}
 use Rattle.state.specs.declared.Board.{Board}

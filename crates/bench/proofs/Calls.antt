@@ -12,7 +12,7 @@ use Rattle.rule.specs.Calls.{Called, ifNone, call}
 use Rattle.rule.proofs.Choice.{eitherNone}
 use Rattle.rule.proofs.Numbered.{call-accepted}
 use Rattle.sheet.specs.Lengths.{longestPiece}
-use Rattle.names.specs.declared.Order.{Order}
+use Rattle.orders.specs.declared.Order.{Order}
 use Rattle.unit.specs.Protocol.{protocol, freshState}
 use Rattle.unit.specs.declared.Memory.{Memory}
 use Rattle.receiver.proofs.Calls.{accept-some}

@@ -15,7 +15,7 @@ use Rattle.rule.specs.Facts.{TakesSteps}
 use Rattle.rule.proofs.Steps.{steps-append, steps-is-whole}
 use Rattle.rule.proofs.Calls.{at-append, call-steps}
 use Rattle.sheet.specs.Lengths.{longestPiece}
-use Rattle.names.specs.declared.Order.{Order}
+use Rattle.orders.specs.declared.Order.{Order}
 use Rattle.names.proofs.Need.{need-law}
 use Rattle.unit.specs.Unit.{Event, freshMemory}
 use Rattle.unit.specs.Protocol.{protocol, soundState, freshState}

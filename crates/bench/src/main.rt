@@ -27,14 +27,14 @@ fn say(text: &[u8]) {
 
 fn say_bad(place: usize) {
     let mut line = [0u8; 64];
-    let n = trace::write_bad(&mut line, place);
+    let n = lines::write_bad(&mut line, place);
     say(&line[..n]);
 }
 
 // The last line.
 fn say_end(board: Board) {
     let mut line = [0u8; 64];
-    let n = trace::write_end(&mut line, board.memory.notes.flags, board.count);
+    let n = lines::write_end(&mut line, board.memory.notes.flags, board.count);
     say(&line[..n]);
 }
 
@@ -47,7 +47,7 @@ fn call_once(board: Board, stamp: u32, piece: &[u8]) -> Call
     let order = call.order;
     let written = call.written;
     let mut line = [0u8; 600];
-    let n = trace::write_line(&mut line, stamp, call.taken, order, &reply[..written]);
+    let n = lines::write_line(&mut line, stamp, call.taken, order, &reply[..written]);
     say(&line[..n]);
     call
 }

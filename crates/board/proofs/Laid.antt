@@ -4,7 +4,7 @@ use mathlib.Core.List.{List}
 use Prim.Native.Nat.{ℕ}
 use Rattle.position.specs.declared.Steps.{Steps}
 use Rattle.position.specs.declared.Microsteps.{Microsteps}
-use Rattle.names.specs.Names.{orderNumber, orderTravel}
+use Rattle.orders.specs.Orders.{orderNumber, orderTravel}
 use Rattle.state.specs.Parts.{callAt}
 use Rattle.state.specs.declared.Board.{Board}
 use Rattle.state.specs.declared.Done.{Done}

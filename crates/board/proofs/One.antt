@@ -2,13 +2,13 @@
 use mathlib.Core.Path.{ap, sym, _∙_}
 use Rattle.promise.specs.Promise.{Leaves}
 use Rattle.board.specs.Answer.{Left}
-use Rattle.board.proofs.rivertosku_fresh_3.Reads as rivertosku-fresh
-use Rattle.board.proofs.rivertosku_receive_3.Reads as rivertosku-receive
-use Rattle.board.proofs.rivertosku_report_clock_3.Reads as rivertosku-report-clock
-use Rattle.board.proofs.rivertosku_report_position_3.Reads as rivertosku-report-position
-use Rattle.board.proofs.rivertosku_judge_3.Reads as rivertosku-judge
-use Rattle.board.proofs.rivertosku_hand_out_3.Reads as rivertosku-hand-out
-use Rattle.board.proofs.rivertosku_take_back_3.Reads as rivertosku-take-back
+use Rattle.board.proofs.rivertosku_fresh_4.Reads as rivertosku-fresh
+use Rattle.board.proofs.rivertosku_receive_4.Reads as rivertosku-receive
+use Rattle.board.proofs.rivertosku_report_clock_4.Reads as rivertosku-report-clock
+use Rattle.board.proofs.rivertosku_report_position_4.Reads as rivertosku-report-position
+use Rattle.board.proofs.rivertosku_judge_4.Reads as rivertosku-judge
+use Rattle.board.proofs.rivertosku_hand_out_4.Reads as rivertosku-hand-out
+use Rattle.board.proofs.rivertosku_take_back_4.Reads as rivertosku-take-back
 
 pub rivertosku-fresh-one : Leaves rivertosku-fresh.Post (λ κs r s. r)
 rivertosku-fresh-one κs a r r' s s' p q = p ∙ sym q

@@ -3,7 +3,7 @@ use mathlib.Core.List.{List}
 use Prim.Native.Nat.{ℕ}
 use lib.ListN.{length}
 use Rattle.rule.specs.Calls.{call}
-use Rattle.names.specs.Names.{orderNumber, orderTravel}
+use Rattle.orders.specs.Orders.{orderNumber, orderTravel}
 use Rattle.unit.specs.Protocol.{protocol}
 use Rattle.state.specs.State.{stateOf}
 use Rattle.state.specs.Parts.{boardAt, restOf}

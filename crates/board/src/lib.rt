@@ -31,7 +31,7 @@ pub struct Answer {
 
 // A board that has taken nothing yet.
 #[no_mangle]
-pub extern "C" fn rivertosku_fresh_3() -> Board
+pub extern "C" fn rivertosku_fresh_4() -> Board
     ensures { λ r. ⌜ r ≡ boardOf freshState ⌝ }
 {
     state::fresh()
@@ -39,7 +39,7 @@ pub extern "C" fn rivertosku_fresh_3() -> Board
 
 // One call: a piece of bytes that share a stamp, and room for the replies. The board's arrays are lent, and changed where they stand.
 #[no_mangle]
-pub extern "C" fn rivertosku_receive_3(
+pub extern "C" fn rivertosku_receive_4(
     table: &mut [u8; table::SIZE],
     held: &mut [u8; sheet::FRAME],
     rest: Rest,
@@ -54,9 +54,9 @@ pub extern "C" fn rivertosku_receive_3(
     let next = done.rest;
     Answer {
         number: done.number,
-        order: names::order_number(order),
-        steps: names::order_steps(order),
-        microsteps: names::order_microsteps(order),
+        order: orders::order_number(order),
+        steps: orders::order_steps(order),
+        microsteps: orders::order_microsteps(order),
         taken: done.taken,
         written: done.written,
         rest: next,
@@ -65,7 +65,7 @@ pub extern "C" fn rivertosku_receive_3(
 
 // One report of the time: what is unfinished is dropped where its last byte is too long ago.
 #[no_mangle]
-pub extern "C" fn rivertosku_report_clock_3(board: Board, now: u32) -> Report
+pub extern "C" fn rivertosku_report_clock_4(board: Board, now: u32) -> Report
     ensures { λ r. ⌜ r ≡ reported board now ⌝ }
 {
     clock::report_time(board, now)
@@ -73,7 +73,7 @@ pub extern "C" fn rivertosku_report_clock_3(board: Board, now: u32) -> Report
 
 // One report of the position: it is the one reported, and nothing else changes.
 #[no_mangle]
-pub extern "C" fn rivertosku_report_position_3(board: Board, position: Position) -> Report
+pub extern "C" fn rivertosku_report_position_4(board: Board, position: Position) -> Report
     ensures { λ r. ⌜ r ≡ located board position ⌝ }
 {
     drive::report_position(board, position)
@@ -81,7 +81,7 @@ pub extern "C" fn rivertosku_report_position_3(board: Board, position: Position)
 
 // 0, or 3 where the board is not sound.
 #[no_mangle]
-pub extern "C" fn rivertosku_judge_3(board: Board) -> u8
+pub extern "C" fn rivertosku_judge_4(board: Board) -> u8
     ensures { λ r. ⌜ r ≡ refusalOf board ⌝ }
 {
     let verdict = state::judge(board);
@@ -90,7 +90,7 @@ pub extern "C" fn rivertosku_judge_3(board: Board) -> u8
 
 // For the flash writer: the table of a board's settings, at the front of out; a refusal writes nothing.
 #[no_mangle]
-pub extern "C" fn rivertosku_hand_out_3(board: Board, out: &mut [u8]) -> u8
+pub extern "C" fn rivertosku_hand_out_4(board: Board, out: &mut [u8]) -> u8
     ensures { λ r. ⌜ (r ≡ outNumber board (length (now (out .entry)))) × (now (out .exit) ≡ handed board (now (out .entry))) ⌝ }
 {
     flash::hand_out(board, out)
@@ -98,7 +98,7 @@ pub extern "C" fn rivertosku_hand_out_3(board: Board, out: &mut [u8]) -> u8
 
 // A board of a stored table; a fresh one where the table is refused.
 #[no_mangle]
-pub extern "C" fn rivertosku_take_back_3(bytes: &[u8]) -> Report
+pub extern "C" fn rivertosku_take_back_4(bytes: &[u8]) -> Report
     ensures { λ r. ⌜ r ≡ takenBack (now (bytes .entry)) ⌝ }
 {
     flash::take_back(bytes)

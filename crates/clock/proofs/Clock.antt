@@ -14,7 +14,7 @@ use Rattle.rule.proofs.Choice.{either}
 use Rattle.rule.proofs.Steps.{steps-append, steps-is-whole}
 use Rattle.rule.proofs.TrueTime.{true-time}
 use Rattle.rule.proofs.Dropped.{true-drops}
-use Rattle.names.specs.declared.Order.{Order}
+use Rattle.orders.specs.declared.Order.{Order}
 use Rattle.names.proofs.Need.{need-law}
 use Rattle.unit.specs.Unit.{Event, clock, position, act}
 use Rattle.unit.specs.Protocol.{protocol, soundState}

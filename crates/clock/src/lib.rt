@@ -1,6 +1,7 @@
 // The time: how long a wait is, and a report of the time to the board (02, P3).
 use state::Board;
 use state::Report;
+ghost use mathlib.Core.Bool.{cond};
 ghost use mathlib.Core.Path.{_≡_};
 ghost use Rattle.rule.specs.Run.{late};
 ghost use Rattle.clock.specs.Report.{reported};
@@ -10,6 +11,16 @@ pub fn is_late(later: u32, earlier: u32) -> bool
     ensures { λ r. ⌜ r ≡ late later earlier ⌝ }
 {
     400 < std::num::wrapping_sub_u32(later, earlier)
+}
+
+// How many of the bytes held the next byte joins: none where the wait drops them.
+pub fn joined(count: usize, later: u32, earlier: u32) -> usize
+    ensures { λ r. ⌜ r ≡ cond (late later earlier) 0 count ⌝ }
+{
+    if is_late(later, earlier) {
+        return 0;
+    }
+    count
 }
 
 // One report of the time: what is unfinished is dropped where its last byte is too long ago.

@@ -18,9 +18,9 @@ use Rattle.rule.proofs.Calls.{call-steps, call-none, call-stamp}
 use Rattle.rule.proofs.Progress.{accept-stops}
 use Rattle.rule.proofs.Largest.{accept-largest, largest-one}
 use Rattle.rule.proofs.Numbered.{Accepted, call-number, call-zero, call-fits}
-use Rattle.names.specs.Names.{given}
-use Rattle.names.specs.declared.Order.{Order}
-use Rattle.names.specs.declared.Order.the-variants.{Nothing}
+use Rattle.orders.specs.Orders.{given}
+use Rattle.orders.specs.declared.Order.{Order}
+use Rattle.orders.specs.declared.Order.the-variants.{Nothing}
 use Rattle.unit.specs.Unit.{orderOf}
 use Rattle.unit.specs.Protocol.{protocol, soundState}
 use Rattle.unit.specs.declared.Memory.{Memory}
@@ -86,7 +86,8 @@ module _ {b : Board} {t : ℕ} {p before after : List ℕ} {r : Call} (got : Ans
   pub keeps-sound : soundBoard b ≡ true → soundBoard (r .board) ≡ true
   keeps-sound h = ap soundState is-state ∙ call-sound (refusalOf b) (stateOf b) t (length before) p h
 
-  -- Demand 1: "A piece over 250 bytes, a reply room under 48 or an unsound board state is refused by number"; "When, tested in this sequence"
+  -- Demand 1: "A piece over 250 bytes, a reply room under 48 or an unsound board state is refused by number" (93 since 02's P6); "When, tested in
+  -- this sequence"
   pub numbered : r .number ≡ cond (ltb longestPiece (length p)) 1 (cond (ltb (length before) longestFrame) 2 (cond (soundBoard b) 0 3))
   numbered = is-number ∙ call-number protocol (refusalOf b) (stateOf b) t (length before) p .number
 

@@ -10,9 +10,9 @@ use lib.ListN.{length, take, drop, replicate}
 use lib.Seq.{take-append-seam, drop-append-seam}
 use borrow.Author.Tests.{eqb-true, eqb-false}
 use Rattle.wire.specs.Numbers.{leBytes}
-use Rattle.frame.specs.Frame.{dataIn}
+use Rattle.frame.specs.Frame.{dataIn, intact}
 use Rattle.sheet.specs.Lengths.{longestFrame}
-use Rattle.sheet.specs.Rows.{rowAt, canonical}
+use Rattle.sheet.specs.Rows.{rowAt, numbersIn, firstOut, canonical}
 use Rattle.sheet.specs.Sheet.{setTable}
 use Rattle.rule.specs.Run.{Item, byte, event, bytes, at}
 use Rattle.rule.specs.Framing.{Token, whole}
@@ -27,12 +27,13 @@ use Rattle.rule.proofs.Calls.{call-steps}
 use Rattle.rule.proofs.Loop.{steps-join}
 use Rattle.rule.proofs.Bytes.{units-bytes}
 use Rattle.rule.proofs.Numbered.{call-accepted}
-use Rattle.names.specs.Names.{given, kindAt, nameIn}
-use Rattle.names.specs.declared.Order.{Order}
+use Rattle.orders.specs.Orders.{given}
+use Rattle.names.specs.Names.{kindAt, nameIn}
+use Rattle.orders.specs.declared.Order.{Order}
 use Rattle.names.specs.declared.Kind.{Kind}
 use Rattle.names.specs.declared.Kind.the-variants.{Set, Get, Finds}
 use Rattle.names.proofs.Need.{need-law}
-use Rattle.unit.specs.Unit.{Event, clock, position, freshMemory, does, act}
+use Rattle.unit.specs.Unit.{Event, clock, position, freshMemory, outOfRange, does, act}
 use Rattle.unit.specs.Protocol.{protocol, freshState}
 use Rattle.unit.specs.Kept.{Refused, Echoed, Without, getReply, FlagsStay}
 use Rattle.unit.specs.Touched.{stepsPart, microstepsPart, countPart, standsAt, positionReply}
@@ -43,6 +44,7 @@ use Rattle.unit.proofs.Replies.{does-length}
 use Rattle.unit.proofs.Flags.{flags-stay}
 use Rattle.unit.proofs.Events.{position-step}
 use Rattle.unit.proofs.Touched.{steps-last, microsteps-last, count-last, found}
+use Rattle.unit.proofs.Rules.{range-first, rule-behind}
 use Rattle.unit.proofs.Runs.{run-get-after-set}
 use Rattle.unit.proofs.Sound.{SoundEvent, sound-begun}
 use Rattle.state.specs.State.{stateOf, boardOf}
@@ -213,6 +215,16 @@ module _ {b : Board} {run all : List (Item Event)} {x : Said Order Board} (h : O
         let keeps : a .next .settings ≡ m .settings = refused-set-keeps m u (λ k e. subst Refused (heard-is k e) r) in
         let without = ap (λ (y : Said Order Memory). y .next .settings) (deal-append protocol before after (b .memory)) in
         (keeps, ap (λ (y : Memory). y .settings) goes-on ∙ settings-alone after (a .next) m keeps ∙ sym without)
+
+    -- 02, P6: "the two rules come after all ranges, recorded as field 99": a set that is whole and has a field out of its range is refused for that field,
+    -- whatever its rule says; one with a broken rule alone for field 99
+    pub range-recorded : (k : ℕ) → kindAt u ≡ Set k → intact u ≡ true → let bad = firstOut (rowAt k) (numbersIn (rowAt k) (dataIn u)) in
+        (bad ≡ 0 → ⊥) → x .next .memory ≡ deal protocol (outOfRange m k bad .next) after .next
+    range-recorded k set crc out = goes-on ∙ ap (λ (y : Said Order Memory). deal protocol (y .next) after .next) (range-first m u k set crc out)
+
+    pub rule-recorded : (k : ℕ) → kindAt u ≡ Set k → intact u ≡ true → let ns = numbersIn (rowAt k) (dataIn u) in
+        firstOut (rowAt k) ns ≡ 0 → rowAt k .rule ns ≡ false → x .next .memory ≡ deal protocol (outOfRange m k 99 .next) after .next
+    rule-recorded k set crc none broken = goes-on ∙ ap (λ (y : Said Order Memory). deal protocol (y .next) after .next) (rule-behind m u k set crc none broken)
 
     -- 02, P5: "gpos, which sends the position as it then stands": that behind the tokens before it
     pub gpos-sends : kindAt u ≡ Finds → x .reply ≡ deal protocol (b .memory) before .reply ++ (positionReply (m .position) ++ deal protocol m after .reply)

@@ -7,7 +7,7 @@ use Rattle.rule.specs.Run.{Item}
 use Rattle.rule.specs.Framing.{Token, Cut}
 use Rattle.rule.specs.Rule.{Said, State, wholeRun}
 use Rattle.rule.specs.TrueTime.{Entry, stamped, Watched, Waited}
-use Rattle.names.specs.declared.Order.{Order}
+use Rattle.orders.specs.declared.Order.{Order}
 use Rattle.unit.specs.Unit.{Event, clock}
 use Rattle.unit.specs.Protocol.{protocol}
 use Rattle.unit.specs.declared.Memory.{Memory}

@@ -9,7 +9,7 @@ use borrow.Author.Tests.{le-ltb}
 use Rattle.sheet.specs.Lengths.{longestFrame, longestPiece}
 use Rattle.rule.specs.Run.{Item, byte, at}
 use Rattle.rule.specs.Rule.{Said, quiet, then}
-use Rattle.names.specs.declared.Order.{Order}
+use Rattle.orders.specs.declared.Order.{Order}
 use Rattle.unit.specs.Unit.{Event}
 use Rattle.state.specs.Sound.{soundBoard}
 use Rattle.state.specs.declared.Board.{Board}

@@ -6,7 +6,7 @@ use denote.Ref.{now}
 use lib.ListN.{length, drop}
 use Rattle.rule.specs.Run.{byte}
 use Rattle.rule.specs.Step.{step}
-use Rattle.names.specs.declared.Order.the-variants.{Nothing}
+use Rattle.orders.specs.declared.Order.the-variants.{Nothing}
 use Rattle.unit.specs.Protocol.{protocol}
 use Rattle.state.specs.State.{stateOf}
 use Rattle.state.specs.declared.Board.{Board}

@@ -8,8 +8,8 @@ use lib.ListN.{length, take, drop}
 use Rattle.rule.specs.Run.{Item, event, at}
 use Rattle.rule.specs.Framing.{Token, unitsOf}
 use Rattle.rule.specs.Rule.{Said, quiet, then, State, deal}
-use Rattle.names.specs.Names.{given}
-use Rattle.names.specs.declared.Order.{Order}
+use Rattle.orders.specs.Orders.{given}
+use Rattle.orders.specs.declared.Order.{Order}
 use Rattle.unit.specs.Unit.{Event}
 use Rattle.unit.specs.Protocol.{protocol}
 use Rattle.unit.specs.declared.Memory.{Memory}

@@ -5,7 +5,7 @@ use Rattle.rule.specs.Run.{lastStamp}
 use Rattle.rule.specs.Framing.{Cut, unitsOf}
 use Rattle.rule.specs.Rule.{Said, with-line, deal}
 use Rattle.rule.specs.TrueTime.{Entry, stamped, WholeClose, TrueDrops}
-use Rattle.names.specs.declared.Order.{Order}
+use Rattle.orders.specs.declared.Order.{Order}
 use Rattle.unit.specs.Unit.{Event, clock}
 use Rattle.unit.specs.Protocol.{protocol}
 use Rattle.state.specs.declared.Board.{Board}

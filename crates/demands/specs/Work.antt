@@ -6,7 +6,7 @@ use lib.ListN.{length, drop}
 use Rattle.sheet.specs.Lengths.{longestPiece}
 use Rattle.rule.specs.Run.{Item, at}
 use Rattle.rule.specs.Rule.{Said, quiet, then}
-use Rattle.names.specs.declared.Order.{Order}
+use Rattle.orders.specs.declared.Order.{Order}
 use Rattle.unit.specs.Unit.{Event}
 use Rattle.state.specs.declared.Board.{Board}
 use Rattle.state.specs.declared.Call.{Call}

@@ -41,10 +41,10 @@ impl Eds {
         Eds {
             borderFlags: wire::u8_at(part, 0),
             enderFlags: wire::u8_at(part, 1),
-            leftBorder: wire::i32_at(part, 2),
-            uLeftBorder: wire::i16_at(part, 6),
-            rightBorder: wire::i32_at(part, 8),
-            uRightBorder: wire::i16_at(part, 12),
+            leftBorder: values::i32_at(part, 2),
+            uLeftBorder: values::i16_at(part, 6),
+            rightBorder: values::i32_at(part, 8),
+            uRightBorder: values::i16_at(part, 12),
         }
     }
 
@@ -55,10 +55,10 @@ impl Eds {
         [
             self.borderFlags as u64,
             self.enderFlags as u64,
-            wire::u32_of(self.leftBorder) as u64,
-            wire::u16_of(self.uLeftBorder) as u64,
-            wire::u32_of(self.rightBorder) as u64,
-            wire::u16_of(self.uRightBorder) as u64,
+            values::u32_of(self.leftBorder) as u64,
+            values::u16_of(self.uLeftBorder) as u64,
+            values::u32_of(self.rightBorder) as u64,
+            values::u16_of(self.uRightBorder) as u64,
         ]
     }
 

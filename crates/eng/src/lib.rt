@@ -46,7 +46,7 @@ impl Eng {
             nomSpeed: wire::u32_at(part, 4),
             uNomSpeed: wire::u8_at(part, 8),
             engineFlags: wire::u16_at(part, 9),
-            antiplay: wire::i16_at(part, 11),
+            antiplay: values::i16_at(part, 11),
             microstepMode: wire::u8_at(part, 13),
             stepsPerRev: wire::u16_at(part, 14),
         }
@@ -62,7 +62,7 @@ impl Eng {
             self.nomSpeed as u64,
             self.uNomSpeed as u64,
             self.engineFlags as u64,
-            wire::u16_of(self.antiplay) as u64,
+            values::u16_of(self.antiplay) as u64,
             self.microstepMode as u64,
             self.stepsPerRev as u64,
         ]

@@ -44,8 +44,8 @@ impl Hom {
             uFastHome: wire::u8_at(part, 4),
             slowHome: wire::u32_at(part, 5),
             uSlowHome: wire::u8_at(part, 9),
-            homeDelta: wire::i32_at(part, 10),
-            uHomeDelta: wire::i16_at(part, 14),
+            homeDelta: values::i32_at(part, 10),
+            uHomeDelta: values::i16_at(part, 14),
             homeFlags: wire::u16_at(part, 16),
         }
     }
@@ -59,8 +59,8 @@ impl Hom {
             self.uFastHome as u64,
             self.slowHome as u64,
             self.uSlowHome as u64,
-            wire::u32_of(self.homeDelta) as u64,
-            wire::u16_of(self.uHomeDelta) as u64,
+            values::u32_of(self.homeDelta) as u64,
+            values::u16_of(self.uHomeDelta) as u64,
             self.homeFlags as u64,
         ]
     }

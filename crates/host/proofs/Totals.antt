@@ -3,13 +3,13 @@ use mathlib.Core.Path.{_≡_, refl, ap, _∙_}
 use Prim.Native.Nat.{_≤_}
 use native.Mathlib.Omega.{arith}
 use Rattle.sheet.specs.declared.Head.{Head}
-use Rattle.sheet.specs.Lengths.{longestFrame}
 use Rattle.sheet.specs.Rows.{total, headOf}
 use Rattle.host.specs.Names.{rowOf, setOf, getOf}
 use Rattle.host.specs.declared.Block.{Block}
 use Rattle.host.specs.declared.Block.the-variants.{Mov, Eng, Pwr, Eds, Hom, Brk, Pid}
 
-pub total-most : (b : Block) → total (rowOf b) ≤ longestFrame
+-- no frame is longer than the room for one (`host::FRAME`)
+pub total-most : (b : Block) → total (rowOf b) ≤ 48
 total-most Mov = omega arith
 total-most Eng = omega arith
 total-most Pwr = omega arith

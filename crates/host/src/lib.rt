@@ -12,6 +12,9 @@ ghost use mathlib.Core.Path.{_≡_};
 ghost use Rattle.sheet.specs.Rows.{headOf};
 ghost use Rattle.host.specs.Names.{setOf, getOf, orderName, blockNumber, orderNumber, blockAt, orderAt, setNamed, getNamed, orderNamed};
 
+// The longest frame of these, set or answer; a board's later commands may have longer ones.
+pub const FRAME: usize = 48;
+
 pub enum Block {
     Mov,
     Eng,

@@ -16,9 +16,10 @@ use Rattle.rule.specs.Rule.{Said, stateAt}
 use Rattle.rule.specs.Calls.{Called, accept}
 use Rattle.rule.proofs.Loop.{later, over, later-start, later-end}
 use Rattle.rule.proofs.Units.{unit-open, unit-full, unit-turn, unit-stop}
-use Rattle.names.specs.Names.{kindFrom, kindAt, span, replied, need, orderNumber, given}
-use Rattle.names.specs.declared.Order.{Order}
-use Rattle.names.specs.declared.Order.the-variants.{Nothing}
+use Rattle.orders.specs.Orders.{orderNumber, given}
+use Rattle.names.specs.Names.{kindFrom, kindAt, span, replied, need}
+use Rattle.orders.specs.declared.Order.{Order}
+use Rattle.orders.specs.declared.Order.the-variants.{Nothing}
 use Rattle.names.specs.declared.Kind.{Kind}
 use Rattle.names.proofs.Lengths.{span-some, span-most}
 use Rattle.names.proofs.Need.{need-law, kind-short, kind-fits, kind-front}

@@ -3,7 +3,7 @@ use mathlib.Core.List.{List}
 use Prim.Native.Nat.{ℕ}
 use Rattle.rule.specs.Rule.{stateAt}
 use Rattle.rule.specs.Calls.{Called}
-use Rattle.names.specs.declared.Order.{Order}
+use Rattle.orders.specs.declared.Order.{Order}
 use Rattle.unit.specs.declared.Memory.{Memory}
 use Rattle.state.specs.State.{boardOf}
 use Rattle.state.specs.Returned.{callOf}

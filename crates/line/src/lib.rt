@@ -1,5 +1,5 @@
 // A line: unit after unit is taken off its front.
-use names::Order;
+use orders::Order;
 use state::Done;
 use state::Rest;
 use unit::Slate;
@@ -82,7 +82,7 @@ pub fn take_units(
         i = e;
         w += due;
         let order = judged.order;
-        if names::order_number(order) != 0 {
+        if orders::order_number(order) != 0 {
             return over(held, cur, order, stamp, line, i, i, w);
         }
     }

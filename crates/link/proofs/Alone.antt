@@ -14,8 +14,9 @@ use Rattle.rule.proofs.Loop.{over}
 use Rattle.rule.proofs.Choice.{either}
 use Rattle.rule.proofs.Numbered.{call-accepted}
 use Rattle.rule.proofs.Units.{unit-alone}
-use Rattle.names.specs.Names.{need, given}
-use Rattle.names.specs.declared.Order.{Order}
+use Rattle.orders.specs.Orders.{given}
+use Rattle.names.specs.Names.{need}
+use Rattle.orders.specs.declared.Order.{Order}
 use Rattle.names.proofs.Need.{need-law}
 use Rattle.unit.specs.Unit.{act}
 use Rattle.unit.specs.Protocol.{protocol}

@@ -16,7 +16,7 @@ use Rattle.rule.specs.Facts.{InTime, spread}
 use Rattle.rule.proofs.Waits.{late-self}
 use Rattle.rule.proofs.Steps.{event-step, steps-append, steps-feeds}
 use Rattle.rule.proofs.Spread.{steps-in-time}
-use Rattle.names.specs.declared.Order.{Order}
+use Rattle.orders.specs.declared.Order.{Order}
 use Rattle.names.proofs.Need.{need-law}
 use Rattle.unit.specs.Unit.{Event, clock, position, stands, act}
 use Rattle.unit.specs.Protocol.{protocol, freshState}

@@ -28,7 +28,7 @@ use Rattle.rule.specs.Framing.{whole}
 use Rattle.rule.specs.Rule.{Said}
 use Rattle.rule.specs.Facts.{OfBytes}
 use Rattle.names.specs.Names.{nameIn, kindOf, nameOf, kindAt, span, need}
-use Rattle.names.specs.declared.Order.{Order}
+use Rattle.orders.specs.declared.Order.{Order}
 use Rattle.names.specs.declared.Kind.{Kind}
 use Rattle.names.specs.declared.Kind.the-variants as kind
 use Rattle.names.proofs.Lengths.{set-total}

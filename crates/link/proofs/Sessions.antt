@@ -11,8 +11,8 @@ use Rattle.wire.proofs.Stores.{front-stored}
 use Rattle.sheet.specs.Lengths.{longestFrame}
 use Rattle.table.specs.Table.{freshTable}
 use Rattle.rule.specs.Facts.{OfBytes}
-use Rattle.names.specs.Names.{given}
-use Rattle.names.specs.declared.Order.{Order}
+use Rattle.orders.specs.Orders.{given}
+use Rattle.orders.specs.declared.Order.{Order}
 use Rattle.unit.specs.Protocol.{protocol}
 use Rattle.unit.proofs.Sound.{sound-memory}
 use Rattle.state.specs.State.{stateOf}

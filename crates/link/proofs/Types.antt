@@ -20,7 +20,7 @@ use Rattle.rule.proofs.Calls.{call-steps}
 use Rattle.rule.proofs.Bytes.{bytes-append, bytes-at}
 use Rattle.rule.proofs.Whole.{part-bytes}
 use Rattle.rule.proofs.OfBytes.{front-bytes, behind-bytes, bytes-keep, bytes-stay}
-use Rattle.names.specs.declared.Order.{Order}
+use Rattle.orders.specs.declared.Order.{Order}
 use Rattle.unit.specs.Unit.{Event, clock, position, act}
 use Rattle.unit.specs.Protocol.{protocol, freshState}
 use Rattle.unit.specs.declared.Memory.{Memory}

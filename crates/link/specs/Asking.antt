@@ -6,8 +6,8 @@ use mathlib.Core.List.{List, [], _∷_, _++_}
 use Prim.Native.Nat.{ℕ, _≤_}
 use denote.Ref.{now}
 use lib.ListN.{length, take, drop}
-use Rattle.names.specs.Names.{given}
-use Rattle.names.specs.declared.Order.{Order}
+use Rattle.orders.specs.Orders.{given}
+use Rattle.orders.specs.declared.Order.{Order}
 use Rattle.unit.specs.Protocol.{protocol}
 use Rattle.state.specs.Sound.{soundBoard}
 use Rattle.state.specs.declared.Board.{Board}

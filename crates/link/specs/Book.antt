@@ -6,8 +6,8 @@ use Prim.Native.Nat.{ℕ}
 use lib.Dec.{eqb}
 use Rattle.wire.specs.Numbers.{leBytes}
 use Rattle.frame.specs.Frame.{framed}
-use Rattle.names.specs.declared.Order.{Order}
-use Rattle.names.specs.declared.Order.the-variants.{Stop, Sstp, Pwof, Left, Rigt, Home, Loft}
+use Rattle.orders.specs.declared.Order.{Order}
+use Rattle.orders.specs.declared.Order.the-variants.{Stop, Sstp, Pwof, Left, Rigt, Home, Loft}
 use Rattle.table.specs.declared.Table.{Table}
 use Rattle.table.specs.Table.{numbersAt}
 use Rattle.host.specs.Names.{setOf, getOf, orderName, blockNumber}

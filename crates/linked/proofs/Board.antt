@@ -6,17 +6,20 @@ use mathlib.Core.Bool.{Bool, true, false, cond}
 use mathlib.Core.List.{List, [], _∷_, _++_, map, map-append}
 use lib.Dec.{eqb}
 use lib.ListN.{length, take}
+use Rattle.frame.specs.Frame.{dataIn, intact}
 use Rattle.rule.specs.Run.{Item, at}
 use Rattle.rule.specs.Framing.{Token, whole}
 use Rattle.rule.specs.Rule.{Said, quiet, then, deal, wholeRun}
 use Rattle.rule.specs.Calls.{call}
 use Rattle.sheet.specs.Sheet.{sheet}
+use Rattle.sheet.specs.Rows.{rowAt, numbersIn, firstOut}
 use Rattle.table.specs.Places.{wholeOf}
 use Rattle.position.specs.declared.Position.{Position}
-use Rattle.names.specs.Names.{orderNumber, given, kindAt}
-use Rattle.names.specs.declared.Kind.the-variants.{Finds}
-use Rattle.names.specs.declared.Order.{Order}
-use Rattle.unit.specs.Unit.{Event, freshMemory}
+use Rattle.orders.specs.Orders.{orderNumber, given}
+use Rattle.names.specs.Names.{kindAt}
+use Rattle.names.specs.declared.Kind.the-variants.{Set, Finds}
+use Rattle.orders.specs.declared.Order.{Order}
+use Rattle.unit.specs.Unit.{Event, freshMemory, outOfRange}
 use Rattle.unit.specs.Protocol.{protocol, freshState}
 use Rattle.unit.specs.Touched.{stepsPart, microstepsPart, countPart, standsAt, positionReply}
 use Rattle.state.specs.State.{stateOf, boardOf}
@@ -36,7 +39,7 @@ use Rattle.demands.specs.Runs.{inState, onBoard, From, tokensOf, memoryBehind, 
 use Rattle.demands.proofs.Calls.{promise, refTo, receive-some}
 use Rattle.demands.proofs.Reports.{report-promise, report-some}
 use Rattle.demands.proofs.Positions.{place-promise, place-some}
-use Rattle.demands.proofs.Runs.{from-fresh, any-cutting, position-steps, position-microsteps, position-count, gpos-sends}
+use Rattle.demands.proofs.Runs.{from-fresh, any-cutting, position-steps, position-microsteps, position-count, gpos-sends, range-recorded, rule-recorded}
 use Rattle.board.specs.Answer.{Left, flat, Answered}
 use Rattle.linked.specs.Board.{Starts, Receives, Hears, Locates, HandsOut, TakesBack, allowed, time, place, OrderSeen, orderSeen, saidBy, numbered, Step, called, told, Offered}
 
@@ -115,8 +118,8 @@ offered-is (next b items rest run x z one more e) =
 pub linked-cutting : {b : Board} {run : List (Item Event)} {x : Said OrderSeen Board} → Starts b → Offered b run x → x ≡ numbered (onBoard (wholeRun protocol freshMemory 0 run))
 linked-cutting (allowed κs a s is) h = let y = offered-is h in y .2 ∙ ap numbered (from-fresh tt tt _ tt is (y .1))
 
--- Of a run from any board with nothing unfinished and from any sound one: demand 3; where the drive stands at the end, part by part; and "gpos, which sends
--- the position as it then stands" (02, P5)
+-- Of a run from any board with nothing unfinished and from any sound one: demand 3; where the drive stands at the end, part by part; "gpos, which sends
+-- the position as it then stands" (02, P5); what is recorded of a set that is refused for a range or for a rule (02, P6)
 module _ {b : Board} {run all : List (Item Event)} {x : Said OrderSeen Board} (h : Offered b run x) (from : From b run all) where
   abbrev y : (y : Said Order Board) × runs.Offered b run y × (x ≡ numbered y)
   y = offered-is h
@@ -136,6 +139,17 @@ module _ {b : Board} {run all : List (Item Event)} {x : Said OrderSeen Board} (h
   pub linked-gpos : (before after : List (Token Event)) (g : List ℕ) → tokensOf all ≡ before ++ whole g ∷ after → kindAt g ≡ Finds
       → let m = memoryBehind (b .memory) before in x .reply ≡ deal protocol (b .memory) before .reply ++ (positionReply (m .position) ++ deal protocol m after .reply)
   linked-gpos before after g cut e = ap (λ (z : Said OrderSeen Board). z .reply) (y .2) ∙ gpos-sends (y .1) from before after g cut e
+
+  -- "the two rules come after all ranges, recorded as field 99" (02, P6)
+  pub linked-range : (before after : List (Token Event)) (u : List ℕ) → tokensOf all ≡ before ++ whole u ∷ after → (k : ℕ) → kindAt u ≡ Set k → intact u ≡ true
+      → let bad = firstOut (rowAt k) (numbersIn (rowAt k) (dataIn u)) in
+      (bad ≡ 0 → ⊥) → x .next .memory ≡ deal protocol (outOfRange (memoryBehind (b .memory) before) k bad .next) after .next
+  linked-range before after u cut k set crc out = ap (λ (z : Said OrderSeen Board). z .next .memory) (y .2) ∙ range-recorded (y .1) from before after u cut k set crc out
+
+  pub linked-rule : (before after : List (Token Event)) (u : List ℕ) → tokensOf all ≡ before ++ whole u ∷ after → (k : ℕ) → kindAt u ≡ Set k → intact u ≡ true
+      → let ns = numbersIn (rowAt k) (dataIn u) in
+      firstOut (rowAt k) ns ≡ 0 → rowAt k .rule ns ≡ false → x .next .memory ≡ deal protocol (outOfRange (memoryBehind (b .memory) before) k 99 .next) after .next
+  linked-rule before after u cut k set crc none broken = ap (λ (z : Said OrderSeen Board). z .next .memory) (y .2) ∙ rule-recorded (y .1) from before after u cut k set crc none broken
 
 -- ---- the flash writer's table
 

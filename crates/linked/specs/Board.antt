@@ -8,8 +8,8 @@ use lib.Dec.{eqb}
 use lib.ListN.{take}
 use Rattle.rule.specs.Run.{Item, at}
 use Rattle.rule.specs.Rule.{Said, quiet}
-use Rattle.names.specs.Names.{orderNumber, orderTravel}
-use Rattle.names.specs.declared.Order.{Order}
+use Rattle.orders.specs.Orders.{orderNumber, orderTravel}
+use Rattle.orders.specs.declared.Order.{Order}
 use Rattle.position.specs.declared.Travel.{Travel}
 use Rattle.position.specs.declared.Position.{Position}
 use Rattle.unit.specs.Unit.{Event, clock, position}
@@ -18,12 +18,12 @@ use Rattle.state.specs.declared.Board.{Board}
 use Rattle.state.specs.declared.Report.{Report}
 use Rattle.demands.specs.Runs.{heard, OfferedBy}
 use Rattle.board.specs.Answer.{Left, leftIn}
-use Rattle.board.proofs.rivertosku_fresh_3.Reads as fresh
-use Rattle.board.proofs.rivertosku_receive_3.Reads as receive
-use Rattle.board.proofs.rivertosku_report_clock_3.Reads as report-clock
-use Rattle.board.proofs.rivertosku_report_position_3.Reads as report-position
-use Rattle.board.proofs.rivertosku_hand_out_3.Reads as hand-out
-use Rattle.board.proofs.rivertosku_take_back_3.Reads as take-back
+use Rattle.board.proofs.rivertosku_fresh_4.Reads as fresh
+use Rattle.board.proofs.rivertosku_receive_4.Reads as receive
+use Rattle.board.proofs.rivertosku_report_clock_4.Reads as report-clock
+use Rattle.board.proofs.rivertosku_report_position_4.Reads as report-position
+use Rattle.board.proofs.rivertosku_hand_out_4.Reads as hand-out
+use Rattle.board.proofs.rivertosku_take_back_4.Reads as take-back
 
 -- THE CONTRACT OF RIVERTOSKU_FRESH allows the board b
 pub data Starts (b : Board) : Type 0 where

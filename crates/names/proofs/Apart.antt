@@ -4,7 +4,8 @@ use mathlib.Core.List.{[], _∷_, map}
 use Rattle.keyed.specs.Keyed.{valueIn}
 use Rattle.sheet.specs.Names.{named}
 use Rattle.sheet.specs.Sheet.{setTable, getTable, move, movr, spos, gpos}
-use Rattle.names.specs.Names.{namesOf, numbersOf, orderNames, orders, orderNumber, orderAt, positionKind, kindOf}
+use Rattle.orders.specs.Orders.{orders, orderNumber, orderAt}
+use Rattle.names.specs.Names.{namesOf, numbersOf, orderNames, positionKind, kindOf}
 use Rattle.names.specs.declared.Kind.the-variants.{Set, Get, Gives, Moves, Places, Finds, Clears}
 
 pub set-kinds : map kindOf (namesOf setTable) ≡ map Set (numbersOf setTable)

@@ -13,7 +13,8 @@ use Rattle.sheet.specs.Lengths.{longestFrame}
 use Rattle.sheet.specs.Names.{named}
 use Rattle.sheet.specs.Sheet.{Row, sheet, setTable, getTable, move, movr, spos, gpos}
 use Rattle.sheet.specs.Rows.{total, rowIn, rowAt}
-use Rattle.names.specs.Names.{numbersOf, totalsOf, totalIn, numberIn, orderIn, orderAt, positionKind, kindOf, span, replied}
+use Rattle.orders.specs.Orders.{orderAt}
+use Rattle.names.specs.Names.{numbersOf, totalsOf, totalIn, numberIn, orderIn, positionKind, kindOf, span, replied}
 use Rattle.names.specs.declared.Kind.{Kind}
 use Rattle.names.specs.declared.Kind.the-variants.{Zero, Set, Get, Gives, Moves, Places, Finds, Clears, Unknown}
 

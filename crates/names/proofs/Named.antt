@@ -12,7 +12,8 @@ use Rattle.keyed.proofs.Every.{all}
 use Rattle.keyed.proofs.Values.{value-key, value-all}
 use Rattle.sheet.specs.Names.{named}
 use Rattle.sheet.specs.Sheet.{Command, setTable, getTable, move, movr, spos, gpos}
-use Rattle.names.specs.Names.{numberIn, nameIn, namesOf, numbersOf, orderNames, orderNumber, orderIn, orderAt, given, kindOf, kindFrom, kindAt, nameOf}
+use Rattle.orders.specs.Orders.{orderNumber, orderAt, given}
+use Rattle.names.specs.Names.{numberIn, nameIn, namesOf, numbersOf, orderNames, orderIn, kindOf, kindFrom, kindAt, nameOf}
 use Rattle.names.specs.declared.Kind.{Kind}
 use Rattle.names.specs.declared.Kind.the-variants.{Zero, Set, Get, Gives, Moves, Places, Finds, Clears, Unknown}
 use Rattle.names.proofs.Lengths.{position-kind}

@@ -2,24 +2,12 @@
 use mathlib.Core.Path.{sym, _∙_}
 use Rattle.promise.specs.Promise.{Leaves}
 use Rattle.names.proofs.get_total.Reads as get-total
-use Rattle.names.proofs.order_number.Reads as order-number
-use Rattle.names.proofs.order_steps.Reads as order-steps
-use Rattle.names.proofs.order_microsteps.Reads as order-microsteps
 use Rattle.names.proofs.kind_of.Reads as kind-of
 use Rattle.names.proofs.span_of.Reads as span-of
 use Rattle.names.proofs.replied_of.Reads as replied-of
 
 pub get-total-one : Leaves get-total.Post (λ κs r s. r)
 get-total-one κs a r r' s s' p q = p ∙ sym q
-
-pub order-number-one : Leaves order-number.Post (λ κs r s. r)
-order-number-one κs a r r' s s' p q = p ∙ sym q
-
-pub order-steps-one : Leaves order-steps.Post (λ κs r s. r)
-order-steps-one κs a r r' s s' p q = p ∙ sym q
-
-pub order-microsteps-one : Leaves order-microsteps.Post (λ κs r s. r)
-order-microsteps-one κs a r r' s s' p q = p ∙ sym q
 
 pub kind-of-one : Leaves kind-of.Post (λ κs r s. r)
 kind-of-one κs a r r' s s' p q = p ∙ sym q

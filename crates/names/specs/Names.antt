@@ -9,10 +9,7 @@ use Rattle.keyed.specs.Keyed.{valueIn}
 use Rattle.sheet.specs.Names.{named}
 use Rattle.sheet.specs.Sheet.{Command, setTable, getTable, moveRow, sposRow, gposRow, move, movr, spos, gpos}
 use Rattle.sheet.specs.Rows.{total}
-use Rattle.position.specs.Position.{travelOf}
-use Rattle.position.specs.declared.Travel.{Travel}
-use Rattle.names.specs.declared.Order.{Order}
-use Rattle.names.specs.declared.Order.the-variants.{Nothing, Stop, Sstp, Pwof, Left, Rigt, Home, Loft, Move, Movr}
+use Rattle.orders.specs.Orders.{orderAt}
 use Rattle.names.specs.declared.Kind.{Kind}
 use Rattle.names.specs.declared.Kind.the-variants.{Zero, Set, Get, Gives, Moves, Places, Finds, Clears, Unknown}
 
@@ -41,40 +38,6 @@ totalIn cs k = valueIn k (numbersOf cs) (totalsOf cs) 6
 
 -- ---- orders
 
--- "Orders: 1 stop, 2 sstp, 3 pwof, 4 left, 5 rigt, 6 home, 7 loft. 0 means no order." 02, P5: "Orders 8 and 9"
-abbrev pub orderNumber : Order → ℕ
-orderNumber Nothing = 0
-orderNumber Stop = 1
-orderNumber Sstp = 2
-orderNumber Pwof = 3
-orderNumber Left = 4
-orderNumber Rigt = 5
-orderNumber Home = 6
-orderNumber Loft = 7
-orderNumber (Move t) = 8
-orderNumber (Movr t) = 9
-
--- 02, P5: "Orders 8 and 9 carry their steps and microsteps"; any other carries 0 and 0
-abbrev pub orderTravel : Order → Travel
-orderTravel Nothing = travelOf []
-orderTravel Stop = travelOf []
-orderTravel Sstp = travelOf []
-orderTravel Pwof = travelOf []
-orderTravel Left = travelOf []
-orderTravel Rigt = travelOf []
-orderTravel Home = travelOf []
-orderTravel Loft = travelOf []
-orderTravel (Move t) = t
-orderTravel (Movr t) = t
-
--- those that a name alone gives
-abbrev pub orders : List Order
-orders = Nothing ∷ Stop ∷ Sstp ∷ Pwof ∷ Left ∷ Rigt ∷ Home ∷ Loft ∷ []
-
--- the order of a number
-abbrev pub orderAt : ℕ → Order
-orderAt k = getD orders k Nothing
-
 -- "its number 0x74676972 spells rigt: the number decides"
 abbrev pub orderNames : List ℕ
 orderNames = named "stop" ∷ named "sstp" ∷ named "pwof" ∷ named "left" ∷ named "rigt" ∷ named "home" ∷ named "loft" ∷ []
@@ -82,10 +45,6 @@ orderNames = named "stop" ∷ named "sstp" ∷ named "pwof" ∷ named "left" ∷
 -- the number of the order that has this name, or 0
 abbrev pub orderIn : ℕ → ℕ
 orderIn n = valueIn n orderNames (1 ∷ 2 ∷ 3 ∷ 4 ∷ 5 ∷ 6 ∷ 7 ∷ []) 0
-
--- the orders that the order of an answer stands for
-abbrev pub given : Order → List Order
-given o = cond (eqb (orderNumber o) 0) [] (o ∷ [])
 
 -- ---- kinds
 

@@ -1,33 +1,21 @@
 // The names of 01 and 02: what the first bytes of a unit say that it is, how long it is, and how long its answer.
 use brk::Brk;
+use ctl::Ctl;
 use eds::Eds;
 use eng::Eng;
 use hom::Hom;
+use joy::Joy;
 use mov::Mov;
+use orders::Order;
 use pid::Pid;
-use position::Microsteps;
 use position::Position;
 use position::Spos;
-use position::Steps;
 use position::Travel;
 use pwr::Pwr;
 use sheet::names;
 ghost use mathlib.Core.Path.{_≡_};
 ghost use Rattle.sheet.specs.Sheet.{setTable, getTable};
-ghost use Rattle.names.specs.Names.{numberIn, totalIn, orderIn, orderAt, orderNumber, orderTravel, positionKind, kindOf, kindFrom, span, replied};
-
-pub enum Order {
-    Nothing,
-    Stop,
-    Sstp,
-    Pwof,
-    Left,
-    Rigt,
-    Home,
-    Loft,
-    Move(Travel),
-    Movr(Travel),
-}
+ghost use Rattle.names.specs.Names.{numberIn, totalIn, orderIn, positionKind, kindOf, kindFrom, span, replied};
 
 // A zero, a set or a get by its number, an order, move or movr by its number, spos, gpos, the command zero, or a name that nobody knows.
 pub enum Kind {
@@ -43,7 +31,7 @@ pub enum Kind {
 }
 
 // The tables of sheet 01 as lists: names, and beside each name its number and the total length of its frame.
-const SET_NAMES: [usize; 7] = [
+const SET_NAMES: [usize; 9] = [
     Mov::SET as usize,
     Eng::SET as usize,
     Pwr::SET as usize,
@@ -51,11 +39,13 @@ const SET_NAMES: [usize; 7] = [
     Hom::SET as usize,
     Brk::SET as usize,
     Pid::SET as usize,
+    Ctl::SET as usize,
+    Joy::SET as usize,
 ];
 
-const SET_NUMBERS: [usize; 7] = [1, 2, 3, 4, 5, 6, 7];
+const SET_NUMBERS: [usize; 9] = [1, 2, 3, 4, 5, 6, 7, 11, 12];
 
-const SET_TOTALS: [usize; 7] = [
+const SET_TOTALS: [usize; 9] = [
     Mov::TOTAL,
     Eng::TOTAL,
     Pwr::TOTAL,
@@ -63,9 +53,11 @@ const SET_TOTALS: [usize; 7] = [
     Hom::TOTAL,
     Brk::TOTAL,
     Pid::TOTAL,
+    Ctl::TOTAL,
+    Joy::TOTAL,
 ];
 
-const GET_NAMES: [usize; 7] = [
+const GET_NAMES: [usize; 9] = [
     Mov::GET as usize,
     Eng::GET as usize,
     Pwr::GET as usize,
@@ -73,11 +65,13 @@ const GET_NAMES: [usize; 7] = [
     Hom::GET as usize,
     Brk::GET as usize,
     Pid::GET as usize,
+    Ctl::GET as usize,
+    Joy::GET as usize,
 ];
 
-const GET_NUMBERS: [usize; 7] = [1, 2, 3, 4, 5, 6, 7];
+const GET_NUMBERS: [usize; 9] = [1, 2, 3, 4, 5, 6, 7, 11, 12];
 
-const GET_TOTALS: [usize; 7] = [
+const GET_TOTALS: [usize; 9] = [
     Mov::TOTAL,
     Eng::TOTAL,
     Pwr::TOTAL,
@@ -85,6 +79,8 @@ const GET_TOTALS: [usize; 7] = [
     Hom::TOTAL,
     Brk::TOTAL,
     Pid::TOTAL,
+    Ctl::TOTAL,
+    Joy::TOTAL,
 ];
 
 const ORDER_NAMES: [usize; 7] = [
@@ -132,158 +128,6 @@ pub fn get_total(number: usize) -> usize
     keyed::value_of(number, &GET_NUMBERS, &GET_TOTALS, 6)
 }
 
-// The order of a number; 0 and any other number give none. A match and no index: an array that is indexed is laid out at every call.
-fn order_at(number: usize) -> Order
-    ensures { λ r. ⌜ r ≡ orderAt number ⌝ }
-{
-    match number {
-        1 => {
-            return Order::Stop;
-        }
-        2 => {
-            return Order::Sstp;
-        }
-        3 => {
-            return Order::Pwof;
-        }
-        4 => {
-            return Order::Left;
-        }
-        5 => {
-            return Order::Rigt;
-        }
-        6 => {
-            return Order::Home;
-        }
-        7 => {
-            return Order::Loft;
-        }
-        _ => {
-            return Order::Nothing;
-        }
-    }
-}
-
-// 01's number of an order, 0 for none.
-pub fn order_number(order: Order) -> u8
-    ensures { λ r. ⌜ r ≡ orderNumber order ⌝ }
-{
-    match order {
-        Order::Nothing => {
-            return 0;
-        }
-        Order::Stop => {
-            return 1;
-        }
-        Order::Sstp => {
-            return 2;
-        }
-        Order::Pwof => {
-            return 3;
-        }
-        Order::Left => {
-            return 4;
-        }
-        Order::Rigt => {
-            return 5;
-        }
-        Order::Home => {
-            return 6;
-        }
-        Order::Loft => {
-            return 7;
-        }
-        Order::Move(_) => {
-            return 8;
-        }
-        Order::Movr(_) => {
-            return 9;
-        }
-    }
-}
-
-// The steps that an order carries, and the microsteps; most carry none. Each by itself: of a match that gives both at once the compiler makes a branch,
-// and moves the board once more at each way out of a call.
-pub fn order_steps(order: Order) -> Steps
-    ensures { λ r. ⌜ r ≡ orderTravel order .steps ⌝ }
-{
-    let none = Steps(0);
-    match order {
-        Order::Nothing => {
-            return none;
-        }
-        Order::Stop => {
-            return none;
-        }
-        Order::Sstp => {
-            return none;
-        }
-        Order::Pwof => {
-            return none;
-        }
-        Order::Left => {
-            return none;
-        }
-        Order::Rigt => {
-            return none;
-        }
-        Order::Home => {
-            return none;
-        }
-        Order::Loft => {
-            return none;
-        }
-        Order::Move(travel) => {
-            let steps = travel.steps;
-            return steps;
-        }
-        Order::Movr(travel) => {
-            let steps = travel.steps;
-            return steps;
-        }
-    }
-}
-
-pub fn order_microsteps(order: Order) -> Microsteps
-    ensures { λ r. ⌜ r ≡ orderTravel order .microsteps ⌝ }
-{
-    let none = Microsteps(0);
-    match order {
-        Order::Nothing => {
-            return none;
-        }
-        Order::Stop => {
-            return none;
-        }
-        Order::Sstp => {
-            return none;
-        }
-        Order::Pwof => {
-            return none;
-        }
-        Order::Left => {
-            return none;
-        }
-        Order::Rigt => {
-            return none;
-        }
-        Order::Home => {
-            return none;
-        }
-        Order::Loft => {
-            return none;
-        }
-        Order::Move(travel) => {
-            let microsteps = travel.microsteps;
-            return microsteps;
-        }
-        Order::Movr(travel) => {
-            let microsteps = travel.microsteps;
-            return microsteps;
-        }
-    }
-}
-
 // What a name says that its unit is, where it is none of 01's.
 fn position_kind(name: u32) -> Kind
     ensures { λ r. ⌜ r ≡ positionKind name ⌝ }
@@ -320,7 +164,7 @@ fn kind_named(name: u32) -> Kind
     }
     let order = order_named(name);
     if 0 < order {
-        return Kind::Gives(order_at(order));
+        return Kind::Gives(orders::order_at(order));
     }
     position_kind(name)
 }

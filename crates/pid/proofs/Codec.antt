@@ -8,7 +8,7 @@ use lib.Ieee.{binary32}
 use lib.Ieee.Bits.{ofBits-toBits, ofBits-fits, toBits-lt}
 use Rattle.wire.proofs.Laid.{Room, room-listed, room-at}
 use Rattle.ranges.proofs.Tests.{all-of}
-use Rattle.wire.proofs.Values.{bits-back, bits-judged}
+use Rattle.values.proofs.Values.{bits-back, bits-judged}
 use Rattle.sheet.specs.Sheet.{pidRow}
 use Rattle.sheet.specs.Rows.{widths, values, firstBad, verdicts}
 use Rattle.sheet.proofs.Codec.{Codec}

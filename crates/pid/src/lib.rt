@@ -42,9 +42,9 @@ impl Pid {
             kpU: wire::u16_at(part, 0),
             kiU: wire::u16_at(part, 2),
             kdU: wire::u16_at(part, 4),
-            kpf: wire::f32_at(part, 6),
-            kif: wire::f32_at(part, 10),
-            kdf: wire::f32_at(part, 14),
+            kpf: values::f32_at(part, 6),
+            kif: values::f32_at(part, 10),
+            kdf: values::f32_at(part, 14),
         }
     }
 
@@ -56,9 +56,9 @@ impl Pid {
             self.kpU as u64,
             self.kiU as u64,
             self.kdU as u64,
-            wire::bits_of(self.kpf) as u64,
-            wire::bits_of(self.kif) as u64,
-            wire::bits_of(self.kdf) as u64,
+            values::bits_of(self.kpf) as u64,
+            values::bits_of(self.kif) as u64,
+            values::bits_of(self.kdf) as u64,
         ]
     }
 

@@ -8,8 +8,8 @@ pub fn checksum(part: &[u8]) {
 
 // A signed number of 16 bits, told by its sign and by the unsigned one that stands for it.
 pub fn integer(n: u32) {
-    let z = wire::i16_of((n % 65536) as u16);
-    let back = wire::u16_of(z) as u64;
+    let z = values::i16_of((n % 65536) as u16);
+    let back = values::u16_of(z) as u64;
     if z < 0 {
         print::say(b" -");
         io::print_decimal(1, 65536 - back);

@@ -1,7 +1,7 @@
 // The board: made in any state, called, told the time and the drive's position, its settings handed out and taken back, shown. No other file reads or
 // writes its fields. What is printed goes through functions that hold no board: a statement beside a board makes a long proof.
 use crate::print;
-use names::Order;
+use orders::Order;
 use position::Count;
 use position::Microsteps;
 use position::Position;
@@ -42,9 +42,9 @@ pub fn note(mut board: Board, numbers: &[u8]) -> Board {
 
 fn position_in(numbers: &[u8]) -> Position {
     Position {
-        steps: Steps(wire::i32_at(numbers, 0)),
-        microsteps: Microsteps(wire::i16_at(numbers, 4)),
-        count: Count(wire::i64_at(numbers, 6)),
+        steps: Steps(values::i32_at(numbers, 0)),
+        microsteps: Microsteps(values::i16_at(numbers, 4)),
+        count: Count(values::i64_at(numbers, 6)),
     }
 }
 
@@ -71,8 +71,8 @@ fn show_notes(notes: Notes) {
 }
 
 fn show_position(position: Position) {
-    print::signed(b" ", wire::wide32(position.steps.0));
-    print::signed(b":", wire::wide16(position.microsteps.0));
+    print::signed(b" ", values::wide32(position.steps.0));
+    print::signed(b":", values::wide16(position.microsteps.0));
     print::signed(b":", position.count.0);
 }
 
@@ -105,7 +105,7 @@ fn show_reply(buffer: &[u8], written: usize, extent: usize) {
 // As the bench prints it: 20 bytes hold the longest.
 fn show_order(order: Order) {
     let mut digits = [0u8; 20];
-    let n = trace::write_order(&mut digits, 0, order);
+    let n = lines::write_order(&mut digits, 0, order);
     print::say(b" ");
     print::say(&digits[..n]);
 }

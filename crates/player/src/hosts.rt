@@ -80,7 +80,7 @@ fn letters(name: u32) {
 fn show_data(data: Fields) {
     let head = host::head_of(fields::block_of(data));
     letters(head.get);
-    let mut section = [0xeeu8; sheet::FRAME];
+    let mut section = [0xeeu8; host::FRAME];
     fields::encode(data, &mut section);
     print::hexadecimal(&section);
 }

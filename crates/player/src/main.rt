@@ -14,7 +14,7 @@
 //   r  report    the stamp is the time. Prints the number
 //   d  drive     the bytes are the position that the drive reports, as in `where`. Prints the number
 //   l  lay out   the settings are handed out into a buffer. Prints number, the whole buffer
-//   b  block     prints the first field out of range in the block of this number, 0 if none is, and its data section as a get sends it
+//   b  block     prints the first field out of range in the block of this number, or 99 for its rule, or 0, and its data section as a get sends it
 //   k  keeps     prints all the bytes that the board has room to hold, spare ones too
 //   g  get       the host writes the get of the block of this number. Prints number, length, the whole buffer
 //   s  set       the same with the set, the bytes being its data section
@@ -24,7 +24,7 @@
 //   i  integer   prints the stamp's low 16 bits as a signed number
 //
 // Behind what `take`, a call or a report prints: flags, last refused block and field, position, count of unfinished bytes, these bytes, last stamp.
-// A position is printed as steps:microsteps:count, an order as the bench prints it. Buffers have as many bytes as the room says, 256 at most, all ee
+// A position is printed as steps:microsteps:count, an order as the bench prints it. Buffers have as many bytes as the room says, 300 at most, all ee
 // before. Every operation that prints ends the line, but for `say`.
 // A get, a set or an order of a number that nobody has prints `no such number`.
 mod arithmetic;

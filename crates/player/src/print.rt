@@ -23,7 +23,7 @@ pub fn signed(mark: &[u8], z: i64) {
 
 // The bytes in hexadecimal, or `-`.
 pub fn hexadecimal(part: &[u8]) {
-    let mut digits = [0u8; 512];
+    let mut digits = [0u8; 600];
     let n = text::write_reply(&mut digits, 0, part);
     say(b" ");
     say(&digits[..n]);
@@ -45,9 +45,9 @@ pub fn within(part: &[u8], n: usize) -> usize
     part.len()
 }
 
-// What is lent to be written into. The second half is there for the callers too.
-pub fn buffer() -> [u8; 256]
-    ensures { λ r. ⌜ (r ≡ replicate 256 0xEE) × (256 ≡ length r) ⌝ }
+// What is lent to be written into, or a case's bytes are read into: a table and more. The second half is there for the callers too.
+pub fn buffer() -> [u8; 300]
+    ensures { λ r. ⌜ (r ≡ replicate 300 0xEE) × (300 ≡ length r) ⌝ }
 {
-    [0xeeu8; 256]
+    [0xeeu8; 300]
 }

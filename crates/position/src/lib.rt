@@ -22,19 +22,19 @@ pub struct Count(pub i64);
 fn steps_number(steps: Steps) -> u64
     ensures { λ r. ⌜ r ≡ ofZ w32 (steps .0) ⌝ }
 {
-    wire::u32_of(steps.0) as u64
+    values::u32_of(steps.0) as u64
 }
 
 fn microsteps_number(microsteps: Microsteps) -> u64
     ensures { λ r. ⌜ r ≡ ofZ w16 (microsteps .0) ⌝ }
 {
-    wire::u16_of(microsteps.0) as u64
+    values::u16_of(microsteps.0) as u64
 }
 
 fn count_number(count: Count) -> u64
     ensures { λ r. ⌜ r ≡ ofZ w64 (count .0) ⌝ }
 {
-    wire::u64_of(count.0)
+    values::u64_of(count.0)
 }
 
 // What move and movr carry, blocks 8 and 9: where to go, or how far.
@@ -55,8 +55,8 @@ impl Travel {
         ensures { λ r. ⌜ r ≡ travelOf (numbersIn moveRow (now (part .entry))) ⌝ }
     {
         Travel {
-            steps: Steps(wire::i32_at(part, 0)),
-            microsteps: Microsteps(wire::i16_at(part, 4)),
+            steps: Steps(values::i32_at(part, 0)),
+            microsteps: Microsteps(values::i16_at(part, 4)),
         }
     }
 
@@ -169,9 +169,9 @@ impl Spos {
         ensures { λ r. ⌜ r ≡ sposOf (numbersIn sposRow (now (part .entry))) ⌝ }
     {
         let position = Position {
-            steps: Steps(wire::i32_at(part, 0)),
-            microsteps: Microsteps(wire::i16_at(part, 4)),
-            count: Count(wire::i64_at(part, 6)),
+            steps: Steps(values::i32_at(part, 0)),
+            microsteps: Microsteps(values::i16_at(part, 4)),
+            count: Count(values::i64_at(part, 6)),
         };
         Spos {
             position,

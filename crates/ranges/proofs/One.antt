@@ -6,6 +6,7 @@ use Rattle.ranges.proofs.is_signed_within.Reads as is-signed-within
 use Rattle.ranges.proofs.is_finite.Reads as is-finite
 use Rattle.ranges.proofs.has_only_bits.Reads as has-only-bits
 use Rattle.ranges.proofs.first_false.Reads as first-false
+use Rattle.ranges.proofs.ruled.Reads as ruled
 
 pub is-within-one : Leaves is-within.Post (λ κs r s. r)
 is-within-one κs a r r' s s' p q = p ∙ sym q
@@ -21,3 +22,6 @@ has-only-bits-one κs a r r' s s' p q = p ∙ sym q
 
 pub first-false-one : Leaves first-false.Post (λ κs r s. r)
 first-false-one κs a r r' s s' p q = p ∙ sym q
+
+pub ruled-one : Leaves ruled.Post (λ κs r s. r)
+ruled-one κs a r r' s s' p q = p ∙ sym q

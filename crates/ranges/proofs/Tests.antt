@@ -1,6 +1,6 @@
 -- Laws of tests in their sequence. Assumes nothing.
 use mathlib.Core.Path.{_≡_, refl, sym, subst}
-use mathlib.Core.Bool.{Bool, true, false, _&&_, _||_}
+use mathlib.Core.Bool.{Bool, true, false, cond, _&&_, _||_}
 use mathlib.Core.List.{List, [], _∷_}
 use Prim.Native.Nat.{ℕ, _+_, _≤_, _<_}
 use native.Mathlib.Nat.{lt-irrefl}
@@ -9,7 +9,8 @@ use native.Mathlib.Omega.{arith}
 use lib.Dec.{T}
 use lib.ListN.{length, getD, drop, drop-of-length-le}
 use lib.Seq.{drop-cons}
-use Rattle.ranges.specs.Tests.{firstFalse}
+use borrow.Author.Tests.{eq-eqb, ne-eqb}
+use Rattle.ranges.specs.Tests.{firstFalse, ruled}
 
 -- ---- two tests in a row
 
@@ -20,6 +21,10 @@ and-yes false b e = absurd (subst T (sym e) tt)
 pub and-no : (a b : Bool) → a ≡ false → a ≡ (a && b)
 and-no true b e = absurd (subst T e tt)
 and-no false b e = refl
+
+pub and-true : (a : Bool) → a ≡ (a && true)
+and-true true = refl
+and-true false = refl
 
 pub or-yes : (a b : Bool) → a ≡ true → a ≡ (a || b)
 or-yes true b e = refl
@@ -53,3 +58,15 @@ unfolding firstFalse
 all-of n [] h e = tt
 all-of n (true ∷ ts) h e = (refl, all-of (n + 1) ts (omega arith) e)
 all-of n (false ∷ ts) h e = absurd (lt-irrefl 0 (subst (λ (k : ℕ). 0 < k) e h))
+
+-- ---- a rule behind the tests
+
+-- where one failed, it is what is refused, whatever the rule says
+pub test-first : (bad : ℕ) (kept : Bool) → (bad ≡ 0 → ⊥) → ruled bad kept ≡ bad
+test-first bad true h = refl
+test-first bad false h = rw (ne-eqb bad 0 h)
+
+-- where none failed, the rule decides
+pub rule-last : (bad : ℕ) (kept : Bool) → bad ≡ 0 → ruled bad kept ≡ cond kept 0 99
+rule-last bad true h = h
+rule-last bad false h = rw (eq-eqb bad 0 h)

@@ -1,5 +1,5 @@
 -- Tests of a number as it stands on the wire, where it is unsigned whatever its field's kind (01, "Blocks", the ranges).
-use mathlib.Core.Bool.{Bool, true, false, not, _&&_, _||_}
+use mathlib.Core.Bool.{Bool, true, false, cond, not, _&&_, _||_}
 use mathlib.Core.List.{List, [], _∷_}
 use lib.Dec.{leb, eqb}
 use lib.Bits.{bitAnd}
@@ -34,3 +34,8 @@ unfoldable pub firstFalse : ℕ → List Bool → ℕ
 firstFalse n [] = 0
 firstFalse n (true ∷ ts) = firstFalse (n + 1) ts
 firstFalse n (false ∷ ts) = n
+
+-- 02, P6: "the two rules come after all ranges, recorded as field 99": behind the first test that failed, whether a rule over all fields is kept
+abbrev pub ruled : ℕ → Bool → ℕ
+ruled bad true = bad
+ruled bad false = cond (eqb bad 0) 99 bad

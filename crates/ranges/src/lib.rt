@@ -1,6 +1,6 @@
 // Tests of a number as it stands on the wire: ranges, floats, flag bits; and the first of some tests that failed.
 ghost use mathlib.Core.Path.{_≡_};
-ghost use Rattle.ranges.specs.Tests.{within, signedWithin, finite, onlyBits, firstFalse};
+ghost use Rattle.ranges.specs.Tests.{within, signedWithin, finite, onlyBits, firstFalse, ruled};
 
 pub fn is_within(lo: u64, hi: u64, n: u64) -> bool
     ensures { λ r. ⌜ r ≡ within lo hi n ⌝ }
@@ -43,4 +43,14 @@ pub fn first_false(tests: &[bool]) -> usize
         }
     }
     0
+}
+
+// The field that is refused: the first out of its range, and behind all of them 99, where a rule over the fields is broken.
+pub fn ruled(bad: usize, kept: bool) -> usize
+    ensures { λ r. ⌜ r ≡ ruled bad kept ⌝ }
+{
+    if kept {
+        return bad;
+    }
+    if bad == 0 { 99 } else { bad }
 }

@@ -17,8 +17,8 @@ use Rattle.rule.proofs.Loop.{accept-ready}
 use Rattle.rule.proofs.Progress.{step-says, accept-takes, accept-orders}
 use Rattle.rule.proofs.Numbered.{call-by, call-accepted}
 use Rattle.sheet.specs.Lengths.{longestFrame, longestPiece}
-use Rattle.names.specs.Names.{given}
-use Rattle.names.specs.declared.Order.{Order}
+use Rattle.orders.specs.Orders.{given}
+use Rattle.orders.specs.declared.Order.{Order}
 use Rattle.unit.specs.Unit.{orderOf}
 use Rattle.unit.specs.Protocol.{protocol}
 use Rattle.unit.specs.declared.Memory.{Memory}

@@ -17,8 +17,8 @@ use Rattle.rule.proofs.Loop.{over, later, accept-number, later-start}
 use Rattle.rule.proofs.Units.{on-line, unit-open}
 use Rattle.sheet.specs.Lengths.{longestFrame}
 use Rattle.names.specs.Names.{need}
-use Rattle.names.specs.declared.Order.{Order}
-use Rattle.names.specs.declared.Order.the-variants.{Nothing}
+use Rattle.orders.specs.declared.Order.{Order}
+use Rattle.orders.specs.declared.Order.the-variants.{Nothing}
 use Rattle.names.proofs.Need.{need-law, need-some, need-most, need-zero, need-name, need-more}
 use Rattle.unit.specs.Unit.{act}
 use Rattle.unit.specs.Protocol.{protocol}

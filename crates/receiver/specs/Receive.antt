@@ -6,7 +6,7 @@ use lib.Dec.{eqb}
 use lib.ListN.{length}
 use Rattle.rule.specs.Calls.{Called, accept, call}
 use Rattle.rule.specs.Ready.{ready}
-use Rattle.names.specs.declared.Order.{Order}
+use Rattle.orders.specs.declared.Order.{Order}
 use Rattle.unit.specs.Protocol.{protocol}
 use Rattle.unit.specs.declared.Memory.{Memory}
 use Rattle.state.specs.State.{stateOf, boardOf}

@@ -1,5 +1,5 @@
 // The receiver of one board: a call takes bytes from a piece, answers what they complete, and hands the board on.
-use names::Order;
+use orders::Order;
 use state::Board;
 use state::Call;
 use state::Done;
@@ -14,23 +14,13 @@ ghost use lib.ListN.{length, getD, take};
 ghost use Rattle.rule.specs.Run.{late};
 ghost use Rattle.sheet.specs.Lengths.{longestFrame, longestPiece};
 ghost use Rattle.names.specs.Names.{need};
-ghost use Rattle.names.specs.declared.Order.the-variants.{Nothing};
+ghost use Rattle.orders.specs.declared.Order.the-variants.{Nothing};
 ghost use Rattle.state.specs.State.{padded};
 ghost use Rattle.state.specs.Parts.{boardAt, callAt};
 ghost use Rattle.receiver.specs.Receive.{Runs, Receives};
 
 // The bytes held and a piece behind them.
 const LINE: usize = sheet::FRAME + sheet::PIECE;
-
-// How many of the bytes held the next byte joins: none where the wait drops them.
-fn joined(count: usize, later: u32, earlier: u32) -> usize
-    ensures { λ r. ⌜ r ≡ cond (late later earlier) 0 count ⌝ }
-{
-    if clock::is_late(later, earlier) {
-        return 0;
-    }
-    count
-}
 
 // A piece, laid behind the first bytes held, where they are no longer than a unit can be; and zeros behind it.
 fn hold(held: &mut [u8; sheet::FRAME], had: usize, piece: &[u8])
@@ -98,7 +88,7 @@ fn run(
     requires { ⌜ (length (now held) ≡ longestFrame) × (rest .count < wants) × (wants ≡ need (take (rest .count) (now held))) × (length (now piece) ≤ longestPiece) × (0 < length (now piece)) ⌝ }
     ensures { λ r. ⌜ Runs (boardAt (now (table .entry)) (now (held .entry)) rest) stamp (now (piece .entry)) (now (reply .entry)) (callAt (now (table .exit)) (now (held .exit)) r) (now (reply .exit)) ⌝ }
 {
-    let had = joined(rest.count, stamp, rest.stamp);
+    let had = clock::joined(rest.count, stamp, rest.stamp);
     if is_open(had, wants, piece) {
         hold(held, had, piece);
         let mut next = rest;

@@ -44,7 +44,7 @@ fn write_set(set: Fields, out: &mut [u8]) -> Written
     if out.len() < total {
         return Written::TooShort;
     }
-    let mut section = [0u8; sheet::FRAME];
+    let mut section = [0u8; host::FRAME];
     fields::encode(set, &mut section);
     let n = total - 6;
     frame::put(out, head.set, &section[..n]);

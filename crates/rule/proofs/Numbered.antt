@@ -36,7 +36,7 @@ module _ {E O M : Type 0} (p : Protocol E O M) where
     call-long h = rw (lt-ltb (p .longestPiece) (length piece) h)
 
     module _ (fits : length piece ≤ p .longestPiece) where
-      -- 2 "reply room under 48"
+      -- 2 "reply room under 48", 93 since 02's P6
       pub call-room : room < p .leastRoom → call p verdict s t room piece ≡ none 2 s
       unfolding call
       call-room h = rw (le-ltb (p .longestPiece) (length piece) fits, lt-ltb room (p .leastRoom) h)

@@ -44,8 +44,8 @@ module _ {E O M : Type 0} (p : Protocol E O M) where
       let a = step p s (byte t x) in
       cond (leb (length (a .reply)) room) (more a (accept (a .next) t (room - length (a .reply)) piece)) (none 0 s)
 
-  -- "When, tested in this sequence": 1 "piece longer than 250", 2 "reply room under 48", then the board's own verdict on its state, which is 0 or the
-  -- number of its refusal (3 "the state is not sound"), 0 "otherwise"
+  -- "When, tested in this sequence": 1 "piece longer than 250", 2 "reply room under 48" (93 since 02's P6), then the board's own verdict on its state,
+  -- which is 0 or the number of its refusal (3 "the state is not sound"), 0 "otherwise"
   unfoldable pub call : ℕ → State M → ℕ → ℕ → List ℕ → Called O M
   call verdict s t room piece =
       cond (ltb (p .longestPiece) (length piece)) (none 1 s)

@@ -61,7 +61,7 @@ fn boards(a: Board, b: Board) -> bool
 // 3 where one of them is not sound, else 0 where two boards are the same, and 1 where they are not. The name ends in the layout's number, as the
 // board's functions have it.
 #[no_mangle]
-pub extern "C" fn rivertosku_same_3(a: Board, b: Board) -> u8
+pub extern "C" fn rivertosku_same_4(a: Board, b: Board) -> u8
     ensures { λ r. ⌜ r ≡ comparedAs a b ⌝ }
 {
     let one = state::judge(a);

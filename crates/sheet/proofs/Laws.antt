@@ -13,7 +13,6 @@ use Rattle.wire.specs.Layout.{sum}
 use Rattle.wire.proofs.Stores.{front-stored}
 use Rattle.wire.proofs.Laid.{Room, numbers-laid, laid-numbers, laid-then-zeros, length-laid, length-numbers, numbers-room, numbers-take, room-length}
 use Rattle.sheet.specs.Sheet.{Row}
-use Rattle.sheet.specs.Lengths.{longestFrame}
 use Rattle.sheet.specs.Rows.{widths, total, numbersIn, dataOf, canonical, least, leastFrom}
 
 -- ---- data sections
@@ -46,8 +45,8 @@ module _ (r : Row) where
   pub numbers-fit : (d : List ℕ) → ((i : ℕ) → getD d i 0 < 256) → Room (widths r) (numbersIn r d)
   numbers-fit d b = numbers-room (widths r) 0 d b
 
-  -- laid out aside, in a buffer that the longest frame fits, it stands in front
-  module _ (d : List ℕ) (long : length d ≡ total r - 6) (n : ℕ) (is : n ≡ total r) (most : total r ≤ longestFrame) (zs aside : List ℕ) (room : longestFrame ≡ length zs) (laid : aside ≡ sets zs 0 d) where
+  -- laid out aside, in a buffer that its frame fits, it stands in front
+  module _ (d : List ℕ) (long : length d ≡ total r - 6) (n : ℕ) (is : n ≡ total r) (zs aside : List ℕ) (room : total r ≤ length zs) (laid : aside ≡ sets zs 0 d) where
     pub aside-fits : n - 6 ≤ length aside
     aside-fits = omega (arith, ap length laid ∙ length-sets zs 0 d)
 

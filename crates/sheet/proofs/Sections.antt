@@ -1,6 +1,6 @@
 -- Laws of data sections as bytes, once over a row. Assumes nothing.
 use mathlib.Core.Path.{_≡_, refl, sym, ap, _∙_, subst}
-use mathlib.Core.Bool.{Bool, true, false, _&&_}
+use mathlib.Core.Bool.{Bool, true, false, cond, _&&_}
 use mathlib.Core.List.{List, [], _∷_, _++_, append-nil}
 use Prim.Native.Nat.{ℕ, zero, suc, _+_, _-_, _*_, _≤_, _<_, min}
 use native.Mathlib.Nat.{add-zero, zero-add, suc-add}
@@ -15,10 +15,10 @@ use borrow.Author.Tests.{eqb-true, eqb-false, eq-eqb, ne-eqb, leb-true, leb-fals
 use Rattle.wire.specs.Numbers.{leAt}
 use Rattle.wire.specs.Layout.{sum, numbers}
 use Rattle.wire.proofs.Numbers.{leAt-same}
-use Rattle.wire.proofs.Values.{and-true}
-use Rattle.ranges.specs.Tests.{firstFalse}
+use Rattle.ranges.specs.Tests.{firstFalse, ruled}
+use Rattle.ranges.proofs.Tests.{and-true}
 use Rattle.sheet.specs.Sheet.{Row}
-use Rattle.sheet.specs.Rows.{sizeOf, widths, numbersIn, verdicts, firstBad, canonical}
+use Rattle.sheet.specs.Rows.{sizeOf, widths, numbersIn, verdicts, firstOut, firstBad, canonical}
 use Rattle.sheet.specs.Sections.{bytesAt, filled, badIn, allZero, soundIn}
 use Rattle.sheet.proofs.Laws.{reserved-ignored, numbers-fit}
 use Rattle.sheet.proofs.Codec.{Codec}
@@ -108,7 +108,7 @@ both false b h = absurd (subst T (sym h) tt)
 and-both : (a b : Bool) → a ≡ true → b ≡ true → (a && b) ≡ true
 and-both a b e f = ap (λ (x : Bool). x && b) e ∙ f
 
-and-assoc : (a b c : Bool) → ((a && b) && c) ≡ (a && (b && c))
+pub and-assoc : (a b c : Bool) → ((a && b) && c) ≡ (a && (b && c))
 and-assoc true b c = refl
 and-assoc false b c = refl
 
@@ -212,19 +212,35 @@ allThen [] z = z
 allThen (b ∷ bs) z = b && allThen bs z
 
 -- no test fails where all pass
-first-none : (n : ℕ) (ts : List Bool) (z : Bool) → (eqb (firstFalse (n + 1) ts) 0 && z) ≡ allThen ts z
+pub first-none : (n : ℕ) (ts : List Bool) (z : Bool) → (eqb (firstFalse (n + 1) ts) 0 && z) ≡ allThen ts z
 unfolding firstFalse
 first-none n [] z = refl
 first-none n (true ∷ ts) z = first-none (n + 1) ts z
 first-none n (false ∷ ts) z = ap (λ (b : Bool). b && z) (ne-eqb (n + 1) 0 (λ e. omega arith))
 
--- the fields' tests, then the reserved bytes
-pub sound-tests : (r : Row) (d : List ℕ) → soundIn r d ≡ allThen (verdicts (r .fields) 0 (numbersIn r d)) (allZero (bytesAt (r .reserved) (sum (widths r)) d))
+-- nothing is refused where no test fails and the rule is kept
+ruled-none : (n : ℕ) (kept z : Bool) → (eqb (ruled n kept) 0 && z) ≡ (eqb n 0 && (kept && z))
+ruled-none n true z = refl
+ruled-none n false z = by (eqb n 0) refl
+  where
+    by : (b : Bool) → eqb n 0 ≡ b → (eqb (cond b 99 n) 0 && z) ≡ (b && false)
+    by true e = refl
+    by false e = ap (λ (b : Bool). b && z) e
+
+-- the fields' tests, the rule, then the reserved bytes
+pub sound-tests : (r : Row) (d : List ℕ) → soundIn r d ≡ allThen (verdicts (r .fields) 0 (numbersIn r d)) (r .rule (numbersIn r d) && allZero (bytesAt (r .reserved) (sum (widths r)) d))
 unfolding soundIn badIn
-sound-tests r d = first-none 0 (verdicts (r .fields) 0 (numbersIn r d)) (allZero (bytesAt (r .reserved) (sum (widths r)) d))
+sound-tests r d =
+    let ns = numbersIn r d in
+    let reserved = allZero (bytesAt (r .reserved) (sum (widths r)) d) in
+    ruled-none (firstOut r ns) (r .rule ns) reserved ∙ first-none 0 (verdicts (r .fields) 0 ns) (r .rule ns && reserved)
+
+-- a rule's test, or a run of tests, and those behind it
+pub kept : (a b f g : Bool) → a ≡ f → b ≡ g → (a && b) ≡ (f && g)
+kept a b f g e h = ap (λ (x : Bool). x && b) e ∙ ap (λ (x : Bool). f && x) h
 
 pub tested : (t : ℕ → Bool) (a b g : Bool) (n m : ℕ) → n ≡ m → a ≡ t n → b ≡ g → (a && b) ≡ (t m && g)
-tested t a b g n m e f h = ap (λ (x : Bool). x && b) (f ∙ ap t e) ∙ ap (λ (x : Bool). t m && x) h
+tested t a b g n m e f h = kept a b (t m) g (f ∙ ap t e) h
 
 -- reserved bytes read as a number of any width, and those behind it
 pub zeroed : (w m p : ℕ) (s : List ℕ) (n : ℕ) (b : Bool) → n ≡ leAt w p s → b ≡ allZero (bytesAt m (p + w) s) → (eqb n 0 && b) ≡ allZero (bytesAt (w + m) p s)

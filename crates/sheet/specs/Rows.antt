@@ -1,5 +1,5 @@
 -- What follows from a row of the sheet.
-use mathlib.Core.Bool.{Bool, cond}
+use mathlib.Core.Bool.{Bool, cond, _&&_}
 use mathlib.Core.List.{List, [], _∷_, _++_}
 use Prim.Native.Nat.{ℕ, zero, suc, _+_}
 use lib.Dec.{eqb}
@@ -9,9 +9,9 @@ use lib.ListN.{getD, take, replicate}
 use mir.Syntax.{w16, w32, w64}
 use mir.Val.{toZ}
 use Rattle.wire.specs.Layout.{numbers, laid, sum}
-use Rattle.ranges.specs.Tests.{firstFalse}
+use Rattle.ranges.specs.Tests.{firstFalse, ruled}
 use Rattle.sheet.specs.declared.Head.{Head}
-use Rattle.sheet.specs.Sheet.{Sort, unsigned, signed, float, Field, Row, Command, sheet}
+use Rattle.sheet.specs.Sheet.{Sort, unsigned, signed, float, Field, Row, noRule, Command, sheet}
 
 abbrev widthsOf : List Field → List ℕ
 widthsOf [] = []
@@ -77,8 +77,12 @@ verdicts [] k ns = []
 verdicts (f ∷ fs) k ns = f .test (getD ns k 0) ∷ verdicts fs (k + 1) ns
 
 -- "Fields are numbered from 1 in this order": the number of the first field out of its range, or 0
+abbrev pub firstOut : Row → List ℕ → ℕ
+firstOut r ns = firstFalse 1 (verdicts (r .fields) 0 ns)
+
+-- what a set is refused for: "the two rules come after all ranges, recorded as field 99" (02, P6)
 abbrev pub firstBad : Row → List ℕ → ℕ
-firstBad r ns = firstFalse 1 (verdicts (r .fields) 0 ns)
+firstBad r ns = ruled (firstOut r ns) (r .rule ns)
 
 -- ---- "On a fresh board every field is 0, or the smallest allowed value where 0 is not allowed"
 
@@ -94,13 +98,18 @@ abbrev leastOf : List Field → List ℕ
 leastOf [] = []
 leastOf (f ∷ fs) = least (f .test) ∷ leastOf fs
 
+-- the first field is the smallest that its row's rule allows beside the others
+abbrev freshOf : (List ℕ → Bool) → List Field → List ℕ
+freshOf rule [] = []
+freshOf rule (f ∷ fs) = least (λ n. f .test n && rule (n ∷ leastOf fs)) ∷ leastOf fs
+
 abbrev pub fresh : Row → List ℕ
-fresh r = leastOf (r .fields)
+fresh r = freshOf (r .rule) (r .fields)
 
 -- ---- the row of a block's number; a number of no block has a row without fields
 
 abbrev noRow : Row
-noRow = record { number = 0; fields = []; reserved = 0 }
+noRow = record { number = 0; fields = []; reserved = 0; rule = noRule }
 
 abbrev pub rowIn : List Row → ℕ → Row
 rowIn [] k = noRow

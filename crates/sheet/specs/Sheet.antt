@@ -1,8 +1,10 @@
 -- Sheet 01's table of blocks, row by row in its sequence, and behind it 02's. Above each row stands what 01 says, and what 02 says of its flags; totals
 -- are derived (Rows, `total`).
-use mathlib.Core.Bool.{Bool}
-use mathlib.Core.List.{List, [], _∷_}
+use mathlib.Core.Bool.{Bool, true, not, _&&_}
+use mathlib.Core.List.{List, [], _∷_, _++_}
 use Prim.Native.Nat.{ℕ}
+use lib.Dec.{eqb, leb}
+use lib.ListN.{getD, replicate}
 use Rattle.ranges.specs.Tests.{any, within, signedWithin, finite, onlyBits}
 use Rattle.sheet.specs.Names.{named}
 
@@ -16,11 +18,16 @@ pub record Field : Type 0 where
   pub width : ℕ
   pub test : ℕ → Bool
 
--- a data section: the number of its block, its fields, and how many reserved bytes follow them
+-- a data section: the number of its block, its fields, how many reserved bytes follow them, and its rule over the fields' numbers together
 pub record Row : Type 0 where
   pub number : ℕ
   pub fields : List Field
   pub reserved : ℕ
+  pub rule : List ℕ → Bool
+
+-- most have none
+abbrev pub noRule : List ℕ → Bool
+noRule ns = true
 
 -- a command that carries data, or is answered with data: its name, and the row of that data
 pub record Command : Type 0 where
@@ -64,6 +71,7 @@ movRow =
           ∷ U8 any  -- uAntiplaySpeed
           ∷ [];
       reserved = 10;
+      rule = noRule;
     }
 
 -- | 2 | eng | 34 | NomVoltage U16, NomCurrent U16 15..8000, NomSpeed U32 1..100000, uNomSpeed U8, EngineFlags U16, Antiplay S16,
@@ -84,6 +92,7 @@ engRow =
           ∷ U16 (within 1 65535)  -- StepsPerRev
           ∷ [];
       reserved = 12;
+      rule = noRule;
     }
 
 -- | 3 | pwr | 20 | HoldCurrent U8 0..100, CurrReductDelay U16, PowerOffDelay U16, CurrentSetTime U16, PowerFlags U8 | 6 |
@@ -100,6 +109,7 @@ pwrRow =
           ∷ U8 (onlyBits 0x07)  -- PowerFlags
           ∷ [];
       reserved = 6;
+      rule = noRule;
     }
 
 -- | 4 | eds | 26 | BorderFlags U8, EnderFlags U8, LeftBorder S32, uLeftBorder S16 -255..255, RightBorder S32, uRightBorder S16 -255..255 | 6 |
@@ -117,6 +127,7 @@ edsRow =
           ∷ S16 (signedWithin 255)  -- uRightBorder
           ∷ [];
       reserved = 6;
+      rule = noRule;
     }
 
 -- | 5 | hom | 33 | FastHome U32 0..100000, uFastHome U8, SlowHome U32 0..100000, uSlowHome U8, HomeDelta S32, uHomeDelta S16 -255..255,
@@ -136,6 +147,7 @@ homRow =
           ∷ U16 (onlyBits 0x1FF)  -- HomeFlags
           ∷ [];
       reserved = 9;
+      rule = noRule;
     }
 
 -- | 6 | brk | 25 | t1 U16, t2 U16, t3 U16, t4 U16, BrakeFlags U8 | 10 |
@@ -152,6 +164,7 @@ brkRow =
           ∷ U8 (onlyBits 0x03)  -- BrakeFlags
           ∷ [];
       reserved = 10;
+      rule = noRule;
     }
 
 -- | 7 | pid | 48 | KpU U16, KiU U16, KdU U16, Kpf F, Kif F, Kdf F | 24 |
@@ -168,6 +181,7 @@ pidRow =
           ∷ F  -- Kdf
           ∷ [];
       reserved = 24;
+      rule = noRule;
     }
 
 -- ---- 02, P5: "The blocks are numbered 8 move, 9 movr, 10 spos." The board keeps none of them as a setting
@@ -180,10 +194,10 @@ travelFields =
     ∷ []
 
 abbrev pub moveRow : Row
-moveRow = record { number = 8; fields = travelFields; reserved = 6 }
+moveRow = record { number = 8; fields = travelFields; reserved = 6; rule = noRule }
 
 abbrev pub movrRow : Row
-movrRow = record { number = 9; fields = travelFields; reserved = 6 }
+movrRow = record { number = 9; fields = travelFields; reserved = 6; rule = noRule }
 
 -- "spos and gpos (26 bytes: S32 steps, S16 microsteps, S64 encoder counts; spos then has flags U8 and 5 reserved, gpos 6 reserved)"; "In spos's flags
 -- 0x01 leaves steps and microsteps, 0x02 leaves the encoder count; other bits are refused as in P2."
@@ -198,6 +212,7 @@ sposRow =
           ∷ U8 (onlyBits 0x03)  -- flags
           ∷ [];
       reserved = 5;
+      rule = noRule;
     }
 
 abbrev pub gposRow : Row
@@ -210,11 +225,50 @@ gposRow =
           ∷ S64 any  -- encoder counts
           ∷ [];
       reserved = 6;
+      rule = noRule;
+    }
+
+-- ---- 02, P6: "blocks 11 ctl and 12 joy"
+
+-- "ctl, 93 bytes: ten U32 speeds 0..100000, ten U8 parts, nine U16 timeouts, U16 click time, U16 flags (known bits 0x0F), S32 shift, S16 micro shift
+-- -255..255, 9 reserved; array elements count as fields one by one"; "first speed and its part are not both zero"
+abbrev pub ctlRow : Row
+ctlRow =
+    record {
+      number = 11;
+      fields =
+          replicate 10 (U32 (within 0 100000))  -- MaxSpeed
+          ++ replicate 10 (U8 any)  -- uMaxSpeed
+          ++ replicate 9 (U16 any)  -- Timeout
+          ++ U16 any  -- MaxClickTime
+          ∷ U16 (onlyBits 0x0F)  -- Flags
+          ∷ S32 any  -- DeltaPosition
+          ∷ S16 (signedWithin 255)  -- uDeltaPosition
+          ∷ [];
+      reserved = 9;
+      rule = λ ns. not (eqb (getD ns 0 0) 0 && eqb (getD ns 10 0) 0);
+    }
+
+-- "joy, 22 bytes: three U16 0..10000 (low, centre, high), U8 factor, U8 dead zone, U8 flags (known bit 0x01), 7 reserved"; "low ≤ centre ≤ high"
+abbrev pub joyRow : Row
+joyRow =
+    record {
+      number = 12;
+      fields =
+          U16 (within 0 10000)  -- JoyLowEnd
+          ∷ U16 (within 0 10000)  -- JoyCenter
+          ∷ U16 (within 0 10000)  -- JoyHighEnd
+          ∷ U8 any  -- ExpFactor
+          ∷ U8 any  -- DeadZone
+          ∷ U8 (onlyBits 0x01)  -- JoyFlags
+          ∷ [];
+      reserved = 7;
+      rule = λ ns. leb (getD ns 0 0) (getD ns 1 0) && leb (getD ns 1 0) (getD ns 2 0);
     }
 
 -- the blocks that a board keeps
 abbrev pub sheet : List Row
-sheet = movRow ∷ engRow ∷ pwrRow ∷ edsRow ∷ homRow ∷ brkRow ∷ pidRow ∷ []
+sheet = movRow ∷ engRow ∷ pwrRow ∷ edsRow ∷ homRow ∷ brkRow ∷ pidRow ∷ ctlRow ∷ joyRow ∷ []
 
 -- ---- "The set begins with s, the get with g." Sets and gets are two tables: a later command may have no partner, or one with another section
 
@@ -239,6 +293,12 @@ sbrk = record { name = named "sbrk"; row = brkRow }
 abbrev pub spid : Command
 spid = record { name = named "spid"; row = pidRow }
 
+abbrev pub sctl : Command
+sctl = record { name = named "sctl"; row = ctlRow }
+
+abbrev pub sjoy : Command
+sjoy = record { name = named "sjoy"; row = joyRow }
+
 abbrev pub gmov : Command
 gmov = record { name = named "gmov"; row = movRow }
 
@@ -260,11 +320,17 @@ gbrk = record { name = named "gbrk"; row = brkRow }
 abbrev pub gpid : Command
 gpid = record { name = named "gpid"; row = pidRow }
 
+abbrev pub gctl : Command
+gctl = record { name = named "gctl"; row = ctlRow }
+
+abbrev pub gjoy : Command
+gjoy = record { name = named "gjoy"; row = joyRow }
+
 abbrev pub setTable : List Command
-setTable = smov ∷ seng ∷ spwr ∷ seds ∷ shom ∷ sbrk ∷ spid ∷ []
+setTable = smov ∷ seng ∷ spwr ∷ seds ∷ shom ∷ sbrk ∷ spid ∷ sctl ∷ sjoy ∷ []
 
 abbrev pub getTable : List Command
-getTable = gmov ∷ geng ∷ gpwr ∷ geds ∷ ghom ∷ gbrk ∷ gpid ∷ []
+getTable = gmov ∷ geng ∷ gpwr ∷ geds ∷ ghom ∷ gbrk ∷ gpid ∷ gctl ∷ gjoy ∷ []
 
 -- the sets of 02, P5, and the get of the position
 abbrev pub move : Command

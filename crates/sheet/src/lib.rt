@@ -2,7 +2,7 @@
 pub mod names;
 
 // The longest frame, set or answer: the least room for a reply, and one byte more than the longest unfinished unit.
-pub const FRAME: usize = 48;
+pub const FRAME: usize = 93;
 
 // The longest piece that a call takes.
 pub const PIECE: usize = 250;

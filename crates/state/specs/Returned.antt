@@ -4,7 +4,7 @@ use mathlib.Core.Path.{_≡_}
 use Prim.Native.Nat.{ℕ}
 use lib.ListN.{length, drop}
 use Rattle.rule.specs.Calls.{Called}
-use Rattle.names.specs.declared.Order.{Order}
+use Rattle.orders.specs.declared.Order.{Order}
 use Rattle.unit.specs.Unit.{orderOf}
 use Rattle.unit.specs.declared.Memory.{Memory}
 use Rattle.state.specs.declared.Board.{Board}

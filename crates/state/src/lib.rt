@@ -1,5 +1,5 @@
 // The board: what it keeps between calls, when that is sound, and how it starts.
-use names::Order;
+use orders::Order;
 use position::Position;
 use table::Table;
 use unit::Memory;

@@ -22,13 +22,13 @@ use Rattle.table.proofs.Laws as laws
 use Rattle.table.proofs.Good as good
 
 pub sheet-once : laws.Once sheet
-sheet-once = (refl, (refl, (refl, (refl, (refl, (refl, (refl, tt)))))))
+sheet-once = (refl, (refl, (refl, (refl, (refl, (refl, (refl, (refl, (refl, tt)))))))))
 
 -- where the sections stand, and how long all of them are
-pub places-are : map (λ (r : Row). placeIn sheet (r .number)) sheet ≡ 0 ∷ 24 ∷ 52 ∷ 66 ∷ 86 ∷ 113 ∷ 132 ∷ []
+pub places-are : map (λ (r : Row). placeIn sheet (r .number)) sheet ≡ 0 ∷ 24 ∷ 52 ∷ 66 ∷ 86 ∷ 113 ∷ 132 ∷ 174 ∷ 261 ∷ []
 places-are = refl
 
-pub whole-is : wholeOf sheet ≡ 174
+pub whole-is : wholeOf sheet ≡ 277
 whole-is = refl
 
 -- ---- data sections

@@ -13,7 +13,7 @@ use Rattle.wire.specs.Numbers.{leBytes}
 use Rattle.wire.specs.Layout.{sum}
 use Rattle.wire.proofs.Numbers.{leBytes-zero}
 use Rattle.wire.proofs.Stores.{sets-append}
-use Rattle.wire.proofs.Values.{and-true}
+use Rattle.ranges.proofs.Tests.{and-true}
 use Rattle.sheet.specs.Sheet.{Row, sheet}
 use Rattle.sheet.specs.Rows.{sizeOf, rowAt, widths, numbersIn}
 use Rattle.sheet.specs.Sections.{bytesAt, soundIn}

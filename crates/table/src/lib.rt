@@ -1,9 +1,11 @@
 // The settings as one run of bytes (02, P10): the data sections of the blocks in number order, each as its get sends it. A number of no block has an
 // empty section behind the last.
 use brk::Brk;
+use ctl::Ctl;
 use eds::Eds;
 use eng::Eng;
 use hom::Hom;
+use joy::Joy;
 use mov::Mov;
 use pid::Pid;
 use pwr::Pwr;
@@ -18,7 +20,7 @@ ghost use Rattle.table.specs.Places.{spotIn, sectionIn, putIn};
 ghost use Rattle.table.specs.Table.{allGood, freshTable};
 
 // How long it is.
-pub const SIZE: usize = 174;
+pub const SIZE: usize = 277;
 
 #[repr(C)]
 pub struct Table {
@@ -66,7 +68,13 @@ fn spot_of(number: usize) -> Spot
     if number == 7 {
         return standing(132, 18, 24);
     }
-    standing(174, 0, 0)
+    if number == 11 {
+        return standing(174, 78, 9);
+    }
+    if number == 12 {
+        return standing(261, 9, 7);
+    }
+    standing(277, 0, 0)
 }
 
 // The number of the first field out of its range in a data section for the block of this number, or 0.
@@ -101,6 +109,14 @@ pub fn bad_in(number: usize, section: &[u8]) -> usize
         let x = Pid::decode(section);
         return x.first_bad();
     }
+    if number == 11 {
+        let x = Ctl::decode(section);
+        return x.first_bad();
+    }
+    if number == 12 {
+        let x = Joy::decode(section);
+        return x.first_bad();
+    }
     0
 }
 
@@ -129,7 +145,9 @@ pub fn is_sound(bytes: &[u8]) -> bool
                     & (Eds::is_sound(part(bytes, 66, 20))
                         & (Hom::is_sound(part(bytes, 86, 27))
                             & (Brk::is_sound(part(bytes, 113, 19))
-                                & Pid::is_sound(part(bytes, 132, 42))))))))
+                                & (Pid::is_sound(part(bytes, 132, 42))
+                                    & (Ctl::is_sound(part(bytes, 174, 87))
+                                        & Joy::is_sound(part(bytes, 261, 16))))))))))
 }
 
 fn least(a: usize, b: usize) -> usize
@@ -139,7 +157,8 @@ fn least(a: usize, b: usize) -> usize
 }
 
 impl Table {
-    // Zeros, but for the fields that have to be more: mov's Accel and Decel, eng's NomCurrent, NomSpeed, MicrostepMode and StepsPerRev.
+    // Zeros, but for the fields that have to be more: mov's Accel and Decel, eng's NomCurrent, NomSpeed, MicrostepMode and StepsPerRev,
+    // ctl's first speed.
     pub fn fresh() -> Table
         ensures { λ r. ⌜ r ≡ freshTable ⌝ }
     {
@@ -150,6 +169,7 @@ impl Table {
         t[28] = 1;
         t[37] = 1;
         t[38] = 1;
+        t[174] = 1;
         Table { bytes: t }
     }
 }

@@ -14,7 +14,7 @@ use lib.Seq.{sets, sets-eq, length-sets, take-suc, take-at, length-take-le}
 use mir.Syntax.{w64}
 use mir.Val.{SFits, toZ, ofZ}
 use Rattle.wire.proofs.Stores.{sets-append, sets-past}
-use Rattle.wire.proofs.Values.{back}
+use Rattle.values.proofs.Values.{back}
 use Rattle.wire.specs.Letters.{ascii}
 use Rattle.text.specs.Texts.{glyph, digits, decimal, signed, hex, shown, Written}
 

@@ -50,7 +50,7 @@ pub fn write_number(out: &mut [u8], at: usize, n: u64, end: u8) -> usize
 pub fn write_signed(out: &mut [u8], at: usize, z: i64) -> usize
     ensures { λ r. ⌜ Written (now (out .entry)) at (signed z) r (now (out .exit)) ⌝ }
 {
-    let n = wire::u64_of(z);
+    let n = values::u64_of(z);
     if n < 9223372036854775808 {
         return write_decimal(out, at, n);
     }

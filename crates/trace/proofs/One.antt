@@ -1,35 +1,7 @@
--- Each public function's promise leaves one answer: of the writers, the count and every byte of the buffer. Assumes nothing.
+-- The public function's promise leaves one answer. Assumes nothing.
 use mathlib.Core.Path.{sym, _∙_}
 use Rattle.promise.specs.Promise.{Leaves}
 use Rattle.trace.proofs.read_record.Reads as read-record
-use Rattle.trace.proofs.write_order.Reads as write-order
-use Rattle.trace.proofs.write_line.Reads as write-line
-use Rattle.trace.proofs.write_bad.Reads as write-bad
-use Rattle.trace.proofs.write_end.Reads as write-end
 
 pub read-record-one : Leaves read-record.Post (λ κs r s. r)
 read-record-one κs a r r' s s' p q = p ∙ sym q
-
-pub write-order-one : Leaves write-order.Post (λ κs r s. r)
-write-order-one κs a r r' s s' p q = p .behind ∙ sym (q .behind)
-
-pub write-order-bytes-one : Leaves write-order.Post (λ κs r s. s .0 .now)
-write-order-bytes-one κs a r r' s s' p q = p .bytes ∙ sym (q .bytes)
-
-pub write-line-one : Leaves write-line.Post (λ κs r s. r)
-write-line-one κs a r r' s s' p q = p .behind ∙ sym (q .behind)
-
-pub write-line-bytes-one : Leaves write-line.Post (λ κs r s. s .0 .now)
-write-line-bytes-one κs a r r' s s' p q = p .bytes ∙ sym (q .bytes)
-
-pub write-bad-one : Leaves write-bad.Post (λ κs r s. r)
-write-bad-one κs a r r' s s' p q = p .behind ∙ sym (q .behind)
-
-pub write-bad-bytes-one : Leaves write-bad.Post (λ κs r s. s .0 .now)
-write-bad-bytes-one κs a r r' s s' p q = p .bytes ∙ sym (q .bytes)
-
-pub write-end-one : Leaves write-end.Post (λ κs r s. r)
-write-end-one κs a r r' s s' p q = p .behind ∙ sym (q .behind)
-
-pub write-end-bytes-one : Leaves write-end.Post (λ κs r s. s .0 .now)
-write-end-bytes-one κs a r r' s s' p q = p .bytes ∙ sym (q .bytes)

@@ -1,5 +1,5 @@
 // move and movr (02, P5): read and checked as sets are; they store nothing and give an order.
-use names::Order;
+use orders::Order;
 use position::Travel;
 use unit::Judged;
 use unit::Slate;

@@ -19,7 +19,7 @@ use Rattle.keyed.specs.Keyed.{valueIn}
 use Rattle.names.specs.Names.{positionKind, kindOf, kindFrom, need}
 use Rattle.unit.specs.Unit.{Event, freshMemory, gets, checked, puts, moves, places, finds, does, act}
 use Rattle.unit.specs.Protocol.{protocol}
-use Rattle.names.specs.declared.Order.{Order}
+use Rattle.orders.specs.declared.Order.{Order}
 use Rattle.unit.specs.Cases.{Case, travel, Each, none, row, cases, reports, travels}
 
 pub starred : Each cases

@@ -12,7 +12,7 @@ use Rattle.rule.specs.Rule.{Said, State}
 use Rattle.rule.specs.Step.{steps}
 use Rattle.rule.proofs.Progress.{steps-keep, any-events}
 use Rattle.names.specs.Names.{kindAt}
-use Rattle.names.specs.declared.Order.{Order}
+use Rattle.orders.specs.declared.Order.{Order}
 use Rattle.names.specs.declared.Kind.{Kind}
 use Rattle.names.specs.declared.Kind.the-variants.{Zero, Set, Get, Gives, Moves, Places, Finds, Clears, Unknown}
 use Rattle.unit.specs.Unit.{Event, clock, position, checked, puts, gets, moves, places, finds, does, act}

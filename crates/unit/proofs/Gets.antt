@@ -15,7 +15,7 @@ use Rattle.position.specs.Position.{positionNumbers}
 use Rattle.table.specs.Table.{dataAt}
 use Rattle.table.proofs.Keep.{data-length}
 use Rattle.names.specs.Names.{totalIn}
-use Rattle.names.specs.declared.Order.the-variants.{Nothing}
+use Rattle.orders.specs.declared.Order.the-variants.{Nothing}
 use Rattle.names.proofs.Lengths.{get-total}
 use Rattle.unit.specs.Unit.{gets, finds, Judges}
 use Rattle.unit.specs.declared.Memory.{Memory}
@@ -28,7 +28,7 @@ module _ (m : Memory) (k n : ℕ) (looked : n ≡ totalIn getTable k) (zs sectio
   is = looked ∙ get-total k
 
   pub section-room : n - 6 ≤ length section
-  section-room = aside-fits (rowAt k) (dataAt (m .settings) k) (data-length (m .settings) k) n is (total-most k) zs section room laid
+  section-room = aside-fits (rowAt k) (dataAt (m .settings) k) (data-length (m .settings) k) n is zs section (omega (arith, total-most k)) laid
 
   pub says-got : (name : ℕ) (before after : List ℕ) → after ≡ sets before 0 (framed name (take (n - 6) section))
       → Judges (gets m name k) before (record { order = Nothing; memory = m }) after
@@ -39,18 +39,15 @@ module _ (m : Memory) (k n : ℕ) (looked : n ≡ totalIn getTable k) (zs sectio
         reply =
             e
             ∙ ap (λ (d : List ℕ). sets before 0 (framed name d))
-            (aside-front (rowAt k) (dataAt (m .settings) k) (data-length (m .settings) k) n is (total-most k) zs section room laid);
+            (aside-front (rowAt k) (dataAt (m .settings) k) (data-length (m .settings) k) n is zs section (omega (arith, total-most k)) laid);
       }
 
 -- ---- gpos: its frame is no longer than any
 
-pub position-most : total gposRow ≤ longestFrame
-position-most = omega arith
-
 module _ (m : Memory) (zs section : List ℕ) (room : longestFrame ≡ length zs)
     (laid : section ≡ sets zs 0 (dataOf gposRow (positionNumbers (m .position)))) where
   pub position-room : 20 ≤ length section
-  position-room = aside-fits gposRow (dataOf gposRow (positionNumbers (m .position))) (sent-length gposRow (positionNumbers (m .position))) 26 refl position-most zs section room laid
+  position-room = aside-fits gposRow (dataOf gposRow (positionNumbers (m .position))) (sent-length gposRow (positionNumbers (m .position))) 26 refl zs section (omega arith) laid
 
   pub says-found : (name : ℕ) (before after : List ℕ) → after ≡ sets before 0 (framed name (take 20 section))
       → Judges (finds m name) before (record { order = Nothing; memory = m }) after
@@ -61,5 +58,5 @@ module _ (m : Memory) (zs section : List ℕ) (room : longestFrame ≡ length zs
         reply =
             e
             ∙ ap (λ (d : List ℕ). sets before 0 (framed name d))
-            (aside-front gposRow (dataOf gposRow (positionNumbers (m .position))) (sent-length gposRow (positionNumbers (m .position))) 26 refl position-most zs section room laid);
+            (aside-front gposRow (dataOf gposRow (positionNumbers (m .position))) (sent-length gposRow (positionNumbers (m .position))) 26 refl zs section (omega arith) laid);
       }

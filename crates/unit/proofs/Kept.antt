@@ -17,7 +17,7 @@ use Rattle.table.proofs.Keep.{get-other}
 use Rattle.rule.specs.Framing.{Token, whole, lost, seen}
 use Rattle.rule.specs.Rule.{Said, deal}
 use Rattle.names.specs.Names.{kindAt, nameIn, numbersOf, namesOf}
-use Rattle.names.specs.declared.Order.{Order}
+use Rattle.orders.specs.declared.Order.{Order}
 use Rattle.names.specs.declared.Kind.{Kind}
 use Rattle.names.specs.declared.Kind.the-variants.{Zero, Set, Get, Gives, Moves, Places, Finds, Clears, Unknown}
 use Rattle.names.proofs.Named.{set-unit}

@@ -5,6 +5,7 @@ pub mod Sound
 pub mod Kept
 pub mod Settings
 pub mod Flags
+pub mod Rules
 pub mod Runs
 pub mod Events
 pub mod Touched

@@ -11,7 +11,7 @@ use Rattle.table.proofs.Old as old
 use Rattle.rule.specs.Framing.{whole}
 use Rattle.rule.specs.Rule.{Said}
 use Rattle.names.specs.Names.{kindAt}
-use Rattle.names.specs.declared.Order.{Order}
+use Rattle.orders.specs.declared.Order.{Order}
 use Rattle.names.specs.declared.Kind.the-variants.{Get}
 use Rattle.unit.specs.Unit.{act}
 use Rattle.unit.specs.Kept.{Accepts, getReply}

@@ -24,9 +24,10 @@ use Rattle.rule.specs.Rule.{Said, State}
 use Rattle.rule.specs.Step.{step}
 use Rattle.rule.specs.Facts.{Silent}
 use Rattle.rule.proofs.Progress.{step-says}
-use Rattle.names.specs.Names.{given, kindAt, nameOf, replied}
-use Rattle.names.specs.declared.Order.{Order}
-use Rattle.names.specs.declared.Order.the-variants.{Move, Movr}
+use Rattle.orders.specs.Orders.{given}
+use Rattle.names.specs.Names.{kindAt, nameOf, replied}
+use Rattle.orders.specs.declared.Order.{Order}
+use Rattle.orders.specs.declared.Order.the-variants.{Move, Movr}
 use Rattle.names.specs.declared.Kind.{Kind}
 use Rattle.names.specs.declared.Kind.the-variants.{Zero, Set, Get, Gives, Moves, Places, Finds, Clears, Unknown}
 use Rattle.names.proofs.Lengths.{get-total, replied-most}

@@ -15,7 +15,7 @@ use Rattle.rule.specs.Rule.{Said, deal, wholeRun}
 use Rattle.rule.proofs.Said.{deal-append}
 use Rattle.rule.proofs.Whole.{whole-long}
 use Rattle.names.specs.Names.{kindAt, span, need}
-use Rattle.names.specs.declared.Order.{Order}
+use Rattle.orders.specs.declared.Order.{Order}
 use Rattle.names.specs.declared.Kind.the-variants.{Get}
 use Rattle.names.proofs.Lengths.{set-total}
 use Rattle.names.proofs.Need.{need-kind, need-law}

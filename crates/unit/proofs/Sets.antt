@@ -10,7 +10,7 @@ use borrow.Author.Tests.{eq-eqb, ne-eqb, eqb-true}
 use Rattle.frame.specs.Frame.{dataIn, intact}
 use Rattle.rule.specs.Rule.{Said}
 use Rattle.rule.proofs.Choice.{eitherBy, either}
-use Rattle.names.specs.declared.Order.{Order}
+use Rattle.orders.specs.declared.Order.{Order}
 use Rattle.unit.specs.Unit.{checked, damaged, outOfRange, Outcome, outcomeAt, Judges}
 use Rattle.unit.specs.declared.Memory.{Memory}
 use Rattle.unit.specs.declared.Judged.{Judged}

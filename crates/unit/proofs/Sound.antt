@@ -24,7 +24,7 @@ use Rattle.rule.specs.Calls.{call}
 use Rattle.rule.proofs.Calls.{call-steps}
 use Rattle.rule.proofs.Progress.{steps-begun, steps-keep, no-events}
 use Rattle.names.specs.Names.{kindAt, need}
-use Rattle.names.specs.declared.Order.{Order}
+use Rattle.orders.specs.declared.Order.{Order}
 use Rattle.names.specs.declared.Kind.{Kind}
 use Rattle.names.specs.declared.Kind.the-variants.{Zero, Set, Get, Gives, Moves, Places, Finds, Clears, Unknown}
 use Rattle.names.proofs.Need.{need-some, need-law}

@@ -14,7 +14,7 @@ use Rattle.position.specs.declared.Position.{Position}
 use Rattle.rule.specs.Framing.{Token, whole, lost, seen}
 use Rattle.rule.specs.Rule.{Said, deal}
 use Rattle.names.specs.Names.{kindAt, nameOf}
-use Rattle.names.specs.declared.Order.{Order}
+use Rattle.orders.specs.declared.Order.{Order}
 use Rattle.names.specs.declared.Kind.{Kind}
 use Rattle.names.specs.declared.Kind.the-variants.{Zero, Set, Get, Gives, Moves, Places, Finds, Clears, Unknown}
 use Rattle.names.proofs.Named.{gpos-unit}

@@ -13,9 +13,9 @@ use Rattle.position.specs.declared.Position.{Position}
 use Rattle.table.specs.Table.{numbersAt}
 use Rattle.rule.specs.Run.{Item, event, at}
 use Rattle.rule.specs.Rule.{wholeRun}
-use Rattle.names.specs.Names.{orderNumber}
-use Rattle.names.specs.declared.Order.{Order}
-use Rattle.names.specs.declared.Order.the-variants.{Move, Movr}
+use Rattle.orders.specs.Orders.{orderNumber}
+use Rattle.orders.specs.declared.Order.{Order}
+use Rattle.orders.specs.declared.Order.the-variants.{Move, Movr}
 use Rattle.unit.specs.Unit.{Event, clock, position, freshMemory}
 use Rattle.unit.specs.Protocol.{protocol}
 

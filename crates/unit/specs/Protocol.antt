@@ -10,7 +10,7 @@ use Rattle.rule.specs.Framing.{begun}
 use Rattle.rule.specs.Rule.{State, Protocol}
 use Rattle.sheet.specs.Lengths.{longestFrame, longestPiece}
 use Rattle.names.specs.Names.{need}
-use Rattle.names.specs.declared.Order.{Order}
+use Rattle.orders.specs.declared.Order.{Order}
 use Rattle.unit.specs.Unit.{Event, clock, position, act, freshMemory}
 use Rattle.unit.specs.declared.Memory.{Memory}
 

@@ -19,8 +19,8 @@ use Rattle.table.specs.Table.{dataAt, putAt, freshTable}
 use Rattle.rule.specs.Framing.{Token, whole, lost, seen}
 use Rattle.rule.specs.Rule.{Said, quiet}
 use Rattle.names.specs.Names.{kindAt, nameOf}
-use Rattle.names.specs.declared.Order.{Order}
-use Rattle.names.specs.declared.Order.the-variants.{Nothing, Move, Movr}
+use Rattle.orders.specs.declared.Order.{Order}
+use Rattle.orders.specs.declared.Order.the-variants.{Nothing, Move, Movr}
 use Rattle.names.specs.declared.Kind.{Kind}
 use Rattle.names.specs.declared.Kind.the-variants.{Zero, Set, Get, Gives, Moves, Places, Finds, Clears, Unknown}
 use Rattle.unit.specs.declared.Memory.{Memory}

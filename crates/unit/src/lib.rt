@@ -1,12 +1,12 @@
 // What a unit meets and leaves: the memory, and the answers that units of several kinds share. What a unit of each kind does, crates travel and act say.
-use names::Order;
+use orders::Order;
 use position::Position;
 use table::Table;
 ghost use mathlib.Core.Path.{_≡_};
 ghost use lib.Seq.{sets};
 ghost use Rattle.wire.specs.Numbers.{leBytes};
 ghost use Rattle.names.specs.Names.{nameOf};
-ghost use Rattle.names.specs.declared.Order.the-variants.{Nothing};
+ghost use Rattle.orders.specs.declared.Order.the-variants.{Nothing};
 ghost use Rattle.unit.specs.Unit.{damaged, outOfRange, flagSlate, JudgesAny};
 
 // The flags, and the last refused block and field. All are words, so that a copy has no gap to move.

@@ -1,6 +1,6 @@
 pub mod Numbers
 pub mod Stores
 pub mod Laid
-pub mod Values
+pub mod Runs
 pub mod Picks
 pub mod One

@@ -41,9 +41,10 @@ unfolding leBytes
 put-step s p zero x h = absurd (lt-irrefl 0 h)
 put-step s p (suc n) x h = rw (sub-one, add-one)
 
--- the first byte of a part, and then the others
-pub copy-step : (s part : List ℕ) (at k : ℕ) → k < length part → sets s (at + k) (drop k part) ≡ sets (set s (at + k) (getD part k 0)) (at + (k + 1)) (drop (k + 1) part)
-copy-step s part at k h = rw (drop-cons part k 0 h, add-one k, add-suc at k)
+-- the first element of a part, and then the others
+pub copy-step : {A : Type 0} (s part : List A) (at k : ℕ) (d : A) → k < length part
+    → sets s (at + k) (drop k part) ≡ sets (set s (at + k) (getD part k d)) (at + (k + 1)) (drop (k + 1) part)
+copy-step s part at k d h = rw (drop-cons part k d h, add-one k, add-suc at k)
 
 -- as many as fit are copied: no byte of the part is left, or no place
 pub copy-end : (s part : List ℕ) (at k : ℕ) → at ≤ length s → min (length part) (length s - at) ≤ k → sets s (at + k) (drop k part) ≡ s

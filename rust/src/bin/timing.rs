@@ -3,7 +3,7 @@
 //!
 //!     timing [ROUNDS]
 
-use rivertosku::board::{Board, Number, PIECE, ROOM};
+use rivertosku::board::{Board, Number, FRAME, PIECE, ROOM};
 use rivertosku::generator::{self, any_block, Random, BENCH_ROOM};
 use rivertosku::same;
 use rivertosku::second::Second;
@@ -14,10 +14,10 @@ const BYTES: usize = 10_000_000;
 /// All six lines take about a minute.
 const ROUNDS: usize = 25;
 
-/// Frames of the seven blocks: sets, gets and orders, damaged ones, and zeros.
+/// Frames of the blocks, sets and gets, and orders; damaged ones, and zeros.
 fn trace() -> Vec<u8> {
     let mut random = Random(1);
-    let mut all = Vec::with_capacity(BYTES + 64);
+    let mut all = Vec::with_capacity(BYTES + FRAME);
     while all.len() < BYTES {
         match random.below(100) {
             0..=39 => all.extend(generator::good_set(&mut random, any_block)),

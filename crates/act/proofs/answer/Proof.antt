@@ -6,8 +6,8 @@ use borrow.Author.Needs.{needs}
 use Rattle.wire.specs.Numbers.{leBytes}
 use Rattle.rule.specs.Rule.{Said}
 use Rattle.names.specs.declared.Kind.{Kind}
-use Rattle.names.specs.declared.Order.{Order}
-use Rattle.names.specs.declared.Order.the-variants.{Nothing}
+use Rattle.orders.specs.declared.Order.{Order}
+use Rattle.orders.specs.declared.Order.the-variants.{Nothing}
 use Rattle.unit.specs.Unit.{does, gets, finds, Outcome, memoryAt, outcomeAt, Judges}
 use Rattle.unit.specs.declared.Memory.{Memory}
 use Rattle.unit.specs.declared.Slate.{Slate}

@@ -12,7 +12,7 @@ use Rattle.sheet.specs.Sheet.{sheet}
 use Rattle.sheet.specs.Rows.{rowAt}
 use Rattle.sheet.specs.Sections.{badIn}
 use Rattle.table.specs.Places.{putIn}
-use Rattle.names.specs.declared.Order.the-variants.{Nothing}
+use Rattle.orders.specs.declared.Order.the-variants.{Nothing}
 use Rattle.unit.specs.Unit.{puts, memoryAt, outcomeAt}
 use Rattle.unit.proofs.Sets.{answered-as, section-is, says-damaged, says-refused, says-done}
 use Rattle.act.proofs.answer_set.Statement.{statement}

@@ -7,7 +7,6 @@ use lib.ListN.{length, take}
 use lib.Seq.{sets, length-take-le}
 use borrow.Author.Needs.{needs}
 use Rattle.sheet.specs.declared.Head.{Head}
-use Rattle.sheet.specs.Lengths.{longestFrame}
 use Rattle.sheet.specs.Rows.{headOf, total}
 use Rattle.sheet.proofs.Laws.{data-length, aside-fits, aside-front}
 use Rattle.frame.specs.Frame.{framed}
@@ -32,12 +31,12 @@ module _ (f : Fields) (b : Block) (is : b ≡ blockOf f) (h : Head) (has : h ≡
   long : 6 ≤ h .total
   long = head-long (blockOf f) h head-is
 
-  module _ (zs section : List ℕ) (room : longestFrame ≡ length zs) (laid : section ≡ sets zs 0 (sectionOf f)) where
+  module _ (zs section : List ℕ) (room : 48 ≡ length zs) (laid : section ≡ sets zs 0 (sectionOf f)) where
     fits : h .total - 6 ≤ length section
-    fits = aside-fits (rowOf (blockOf f)) (sectionOf f) (data-length (rowOf (blockOf f)) (fieldNumbers f)) (h .total) total-is (total-most (blockOf f)) zs section room laid
+    fits = aside-fits (rowOf (blockOf f)) (sectionOf f) (data-length (rowOf (blockOf f)) (fieldNumbers f)) (h .total) total-is zs section (omega (arith, total-most (blockOf f))) laid
 
     framed-is : framed (h .set) (take (h .total - 6) section) ≡ setFrame f
-    framed-is = rw (aside-front (rowOf (blockOf f)) (sectionOf f) (data-length (rowOf (blockOf f)) (fieldNumbers f)) (h .total) total-is (total-most (blockOf f)) zs section room laid, ap (λ (x : Head). x .set) head-is)
+    framed-is = rw (aside-front (rowOf (blockOf f)) (sectionOf f) (data-length (rowOf (blockOf f)) (fieldNumbers f)) (h .total) total-is zs section (omega (arith, total-most (blockOf f))) laid, ap (λ (x : Head). x .set) head-is)
 
 -- a field is out of range, or none is
 some : (n : ℕ) → 0 < n → n ≡ 0 → ⊥

@@ -10,13 +10,15 @@ use Rattle.eds.proofs.Codec.{eds-codec}
 use Rattle.hom.proofs.Codec.{hom-codec}
 use Rattle.brk.proofs.Codec.{brk-codec}
 use Rattle.pid.proofs.Codec.{pid-codec}
+use Rattle.ctl.proofs.Codec.{ctl-codec}
+use Rattle.joy.proofs.Codec.{joy-codec}
 use Rattle.sheet.proofs.Sections.{judged-in}
 use Rattle.table.proofs.bad_in.Statement.{statement}
 use Rattle.table.proofs.bad_in.Tie as tie
 
-returns-8 : tie.Need-returns-8
+returns-10 : tie.Need-returns-10
 unfolding firstFalse badIn
-returns-8 c = let n = c .before .before .before .before .before .before .before .before .args .number in rw (ne-eqb n 1 (c .before .before .before .before .before .before .if1 .left), ne-eqb n 2 (c .before .before .before .before .before .if2 .left), ne-eqb n 3 (c .before .before .before .before .if3 .left), ne-eqb n 4 (c .before .before .before .if4 .left), ne-eqb n 5 (c .before .before .if5 .left), ne-eqb n 6 (c .before .if6 .left), ne-eqb n 7 (c .if7 .left))
+returns-10 c = let n = c .before .before .before .before .before .before .before .before .before .before .args .number in rw (ne-eqb n 1 (c .before .before .before .before .before .before .before .before .if1 .left), ne-eqb n 2 (c .before .before .before .before .before .before .before .if2 .left), ne-eqb n 3 (c .before .before .before .before .before .before .if3 .left), ne-eqb n 4 (c .before .before .before .before .before .if4 .left), ne-eqb n 5 (c .before .before .before .before .if5 .left), ne-eqb n 6 (c .before .before .before .if6 .left), ne-eqb n 7 (c .before .before .if7 .left), ne-eqb n 11 (c .before .if8 .left), ne-eqb n 12 (c .if9 .left))
 
 pub bad-in-spec : {M : Type 1} → statement M
 bad-in-spec =
@@ -43,4 +45,10 @@ bad-in-spec =
     (λ c κs. search needs)
     (λ c κs. search needs)
     (λ c. rw (c .before .before .if7 .taken) (judged-in pid-codec _ (c .before .before .before .before .before .before .before .before .before .shared-slice-known .given) _ _ (c .before .decode7 .ensures) (c .first-bad7 .ensures)))
-    returns-8)
+    (λ c κs. search needs)
+    (λ c κs. search needs)
+    (λ c. rw (c .before .before .if8 .taken) (judged-in ctl-codec _ (c .before .before .before .before .before .before .before .before .before .before .shared-slice-known .given) _ _ (c .before .decode8 .ensures) (c .first-bad8 .ensures)))
+    (λ c κs. search needs)
+    (λ c κs. search needs)
+    (λ c. rw (c .before .before .if9 .taken) (judged-in joy-codec _ (c .before .before .before .before .before .before .before .before .before .before .before .shared-slice-known .given) _ _ (c .before .decode9 .ensures) (c .first-bad9 .ensures)))
+    returns-10)

@@ -1,7 +1,7 @@
 -- `unit::refuse_crc` meets its contract. Assumes nothing.
 use mathlib.Core.Path.{ap, _∙_}
 use borrow.Author.Needs.{needs}
-use Rattle.names.specs.declared.Order.the-variants.{Nothing}
+use Rattle.orders.specs.declared.Order.the-variants.{Nothing}
 use Rattle.unit.specs.Unit.{outcomeAt}
 use Rattle.unit.specs.declared.Slate.{Slate}
 use Rattle.unit.proofs.refuse_crc.Statement.{statement}

@@ -20,7 +20,7 @@ loop-again : tie.Need-loop-again Inv-loop μ-loop
 loop-again c =
     let l = c .before .before .loop in
     let a = c .before .before .before .before .before .before .before .args in
-    (sym (copy-step (l .out) (a .part .now) (a .at) (l .k) (omega (arith, c .before .loop-test .taken, c .before .before .before .smaller .ensures))) ∙ l .inv .0, simp length-set (l .inv .1))
+    (sym (copy-step (l .out) (a .part .now) (a .at) (l .k) 0 (omega (arith, c .before .loop-test .taken, c .before .before .before .smaller .ensures))) ∙ l .inv .0, simp length-set (l .inv .1))
 
 returns-2 : tie.Need-returns-2 Inv-loop μ-loop
 returns-2 c =

@@ -9,8 +9,8 @@ pub struct Counts {
     pub units: usize,
     /// Units by their answers: zero, errc, get, order, set, errd, errv.
     pub kinds: [usize; 7],
-    /// And those whose answers are outside the host: move and movr, spos, gpos, the command zero.
-    pub outside: [usize; 4],
+    /// And those whose answers are outside the host: move and movr, spos, gpos, the command zero, sets and gets of later blocks.
+    pub outside: [usize; 6],
     pub calls: usize,
     pub numbers: [usize; 4],
     pub bytes: usize,
@@ -75,7 +75,7 @@ impl Counts {
     pub fn show(&self, seed: u64) {
         let [_, one, two, three] = self.numbers;
         let [zero, errc, get, order, set, errd, errv] = self.kinds;
-        let [travel, spos, gpos, clear] = self.outside;
+        let [travel, spos, gpos, clear, later_set, later_get] = self.outside;
         let [unsound, wide] = self.unplaced;
         let [small, unsound_out] = self.unhanded;
         let [another_length, unsound_back] = self.untaken;
@@ -83,12 +83,12 @@ impl Counts {
         let [no_name, no_answer, cut, damaged] = self.unread;
         println!(
             "compared {} units ({set} sets, {get} gets, {order} orders, {travel} moves, {spos} spos, {gpos} gpos, {clear} zero, \
-             {errv} errv, {errd} errd, {errc} errc, {zero} zeros) in {} runs, {} calls of which {} refused ({one} by 1, {two} by 2, \
-             {three} by 3), {} bytes, {} reports of the time of which {} dropped something and {} were refused, {} reports of the \
-             position of which {} were refused ({unsound} by 3, {wide} by 5), {} tables handed out and {} refused ({small} by 2, \
-             {unsound_out} by 3), {} taken back and {} refused ({another_length} by 1, {unsound_back} by 3), {} looked at, {} requests \
-             written and {} refused ({out_of_range} by 3, {too_short} by 4), {} answers read and {} refused ({no_name} by 5, \
-             {no_answer} by 6, {cut} by 7, {damaged} by 8), seed {seed}",
+             {later_set} sets and {later_get} gets of ctl and joy, {errv} errv, {errd} errd, {errc} errc, {zero} zeros) in {} runs, {} calls \
+             of which {} refused ({one} by 1, {two} by 2, {three} by 3), {} bytes, {} reports of the time of which {} dropped something and \
+             {} were refused, {} reports of the position of which {} were refused ({unsound} by 3, {wide} by 5), {} tables handed out and \
+             {} refused ({small} by 2, {unsound_out} by 3), {} taken back and {} refused ({another_length} by 1, {unsound_back} by 3), {} \
+             looked at, {} requests written and {} refused ({out_of_range} by 3, {too_short} by 4), {} answers read and {} refused \
+             ({no_name} by 5, {no_answer} by 6, {cut} by 7, {damaged} by 8), seed {seed}",
             self.units,
             self.runs,
             self.calls,

@@ -12,7 +12,7 @@ use rivertosku::table::{row, GPOS_TOTAL, ORDERS};
 
 /// A get, an order, or a set: fields in range, at its edges or out of it, or zeros.
 fn request(random: &mut Random) -> Request {
-    let number = generator::any_block(random);
+    let number = generator::host_block(random);
     match random.below(40) {
         0..=15 => Request::Get(number),
         16..=23 => Request::Order(1 + random.below(ORDERS.len())),
@@ -68,6 +68,9 @@ fn outside(bytes: &[u8]) -> Option<(usize, Option<u8>, usize)> {
         b"spos" => Some((1, None, 4)),
         b"gpos" => Some((2, None, GPOS_TOTAL)),
         b"zero" => Some((3, None, 4)),
+        b"sctl" | b"sjoy" => Some((4, None, 4)),
+        b"gctl" => Some((5, None, row(11).total())),
+        b"gjoy" => Some((5, None, row(12).total())),
         _ => None,
     }
 }

@@ -5,7 +5,7 @@ use crate::hosts::requested;
 use crate::run::{Change, Event, Run, Step};
 use rivertosku::board::{Board, Notes, Parts, FRAME, PIECE, ROOM, TABLE};
 use rivertosku::fault::Fault;
-use rivertosku::generator::{self, any_name, any_set, other_set, Random, BENCH_ROOM};
+use rivertosku::generator::{self, any_name, any_set, outside_set, Random, BENCH_ROOM};
 use rivertosku::position::{Count, Microsteps, Position, Steps};
 
 /// The widest room of a call.
@@ -17,15 +17,15 @@ fn bytes(random: &mut Random, fault: Fault, counts: &mut Counts) -> Result<Vec<V
     let units = 1 + random.below(12);
     let mut all = vec![];
     for _ in 0..units {
-        let mut unit = match random.below(120) {
+        let mut unit = match random.below(130) {
             0..=7 => vec![0; 1 + random.below(3)],
             8..=48 => requested(random, fault, counts)?,
             49..=53 => generator::good_set(random, any_set),
             54..=61 => generator::zero_set(random, any_set),
             62..=74 => generator::bad_set(random, any_set),
             75..=85 => generator::damaged_set(random, any_set),
-            86..=95 => generator::good_set(random, other_set),
-            96..=105 => generator::gpos_or_zero(random),
+            86..=101 => generator::good_set(random, outside_set),
+            102..=115 => generator::outside_get(random),
             _ => generator::unknown(random, any_name),
         };
         if random.percent(3) {
@@ -178,8 +178,8 @@ fn sound(random: &mut Random) -> (Parts, Vec<u8>) {
     parts.memory.settings.bytes.copy_from_slice(&generator::sound_table(random));
     parts.memory.notes = Notes {
         flags: random.below(8),
-        block: random.pick(&[0, 1, 7, 10, 11, 256, usize::MAX]),
-        field: random.pick(&[0, 1, 8, 9, 256, usize::MAX]),
+        block: random.pick(&[0, 1, 7, 10, 12, 13, 256, usize::MAX]),
+        field: random.pick(&[0, 1, 33, 34, 98, 99, 100, 256, usize::MAX]),
     };
     let microsteps = inside(random);
     parts.memory.position = position(random, microsteps);

@@ -1,7 +1,7 @@
 -- `hom::Hom::decode` meets its contract: what the calls say of their results, put together. Assumes nothing.
 use borrow.Author.Needs.{needs}
 use mir.Syntax.{w16, w32}
-use Rattle.wire.proofs.Values.{back}
+use Rattle.values.proofs.Values.{back}
 use Rattle.hom.proofs.Hom.decode.Statement.{statement}
 use Rattle.hom.proofs.Hom.decode.Tie as tie
 

@@ -1,7 +1,7 @@
 -- `hom::Hom::numbers` meets its contract: what the calls say of their results, put together. Assumes nothing.
 use borrow.Author.Needs.{needs}
 use mir.Syntax.{w16, w32}
-use Rattle.wire.proofs.Values.{back}
+use Rattle.values.proofs.Values.{back}
 use Rattle.hom.proofs.Hom.numbers.Statement.{statement}
 use Rattle.hom.proofs.Hom.numbers.Tie as tie
 

@@ -12,7 +12,7 @@ use Rattle.sheet.specs.Sheet.{moveRow}
 use Rattle.sheet.specs.Rows.{numbersIn, firstBad}
 use Rattle.position.specs.Position.{travelOf, travelNumbers}
 use Rattle.position.specs.declared.Travel.{Travel}
-use Rattle.names.specs.declared.Order.{Order}
+use Rattle.orders.specs.declared.Order.{Order}
 use Rattle.unit.specs.Unit.{moveOrder, moves, memoryAt, outcomeAt}
 use Rattle.unit.proofs.Sets.{section-is, says-damaged, says-refused, says-done}
 use Rattle.travel.proofs.moves.answer_move.Statement.{statement}

@@ -13,7 +13,7 @@ use Rattle.sheet.specs.Rows.{numbersIn, firstBad}
 use Rattle.position.specs.Position.{sposOf, sposNumbers, placed}
 use Rattle.position.specs.declared.Spos.{Spos}
 use Rattle.position.specs.declared.Position.{Position}
-use Rattle.names.specs.declared.Order.the-variants.{Nothing}
+use Rattle.orders.specs.declared.Order.the-variants.{Nothing}
 use Rattle.unit.specs.Unit.{places, memoryAt, outcomeAt}
 use Rattle.unit.specs.declared.Slate.{Slate}
 use Rattle.unit.proofs.Sets.{answered-as, section-is, says-damaged, says-refused, says-done}

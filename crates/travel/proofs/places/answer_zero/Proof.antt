@@ -1,7 +1,7 @@
 -- `travel::places::answer_zero` meets its contract. Assumes nothing.
 use mathlib.Core.Path.{ap, _∙_}
 use borrow.Author.Needs.{needs}
-use Rattle.names.specs.declared.Order.the-variants.{Nothing}
+use Rattle.orders.specs.declared.Order.the-variants.{Nothing}
 use Rattle.unit.specs.Unit.{outcomeAt}
 use Rattle.unit.specs.declared.Slate.{Slate}
 use Rattle.position.specs.declared.Position.{Position}
