@@ -1,21 +1,21 @@
 -- A main loop comes to its end: any pieces, with any rooms that are enough. In quotation marks: sheet 01, "One call". Assumes nothing.
 use Prim.Native.Nat.{ℕ, zero, suc, _+_, _≤_, _<_}
-use mathlib.Core.Path.{_≡_, refl, ap, sym, subst, _∙_}
+use mathlib.Core.Path.{_≡_, refl, ap, _∙_}
 use mathlib.Core.Bool.{true}
-use mathlib.Core.List.{List, [], _∷_, _++_, append-assoc, map}
+use mathlib.Core.List.{List, [], _∷_, _++_, append-assoc}
 use native.Mathlib.Omega.{arith}
 use lib.ListN.{length, take, drop, replicate, length-append, length-drop, length-replicate}
 use borrow.Author.Tests.{le-ltb}
 use Rattle.sheet.specs.Lengths.{longestFrame, longestPiece}
 use Rattle.rule.specs.Run.{Item, byte, at}
-use Rattle.rule.specs.Rule.{Said, quiet, then}
+use Rattle.rule.specs.Rule.{Said, quiet}
 use Rattle.orders.specs.declared.Order.{Order}
 use Rattle.unit.specs.Unit.{Event}
 use Rattle.state.specs.Sound.{soundBoard}
 use Rattle.state.specs.declared.Board.{Board}
 use Rattle.state.specs.declared.Call.{Call}
 use Rattle.demands.specs.Calls.{Answers}
-use Rattle.demands.specs.Runs.{saidBy, called, done, next, Offered}
+use Rattle.demands.specs.Runs.{called, done, next, Offered}
 use Rattle.demands.specs.Work.{Piece, runOf, bytesIn, Short, Worked, over, past, call}
 use Rattle.demands.proofs.Calls.{receive-some, numbered, takes, keeps-sound}
 

@@ -1,6 +1,5 @@
 -- `ranges::ruled` meets its contract. Assumes nothing.
-use mathlib.Core.Path.{refl, sym}
-use borrow.Author.Tests.{eq-eqb, ne-eqb}
+use borrow.Author.Tests.{ne-eqb}
 use Rattle.ranges.proofs.ruled.Statement.{statement}
 use Rattle.ranges.proofs.ruled.Tie as tie
 
