@@ -4,7 +4,7 @@ use Rattle.crc.proofs.crc.Statement.{statement}
 use Rattle.crc.proofs.crc.Tie as tie
 
 returns : tie.Need-returns
-returns c = c.crc-from.ensures
+returns c = c.crc_from.ensures
 
 pub crc_spec : {M : Type 1} → statement M
 crc_spec = tie.close (tie.spec (λ c κs. search rules) returns)

@@ -9,25 +9,25 @@ use Rattle.crc.proofs.Laws.{crc_more, crc_ended, byte_lt}
 use Rattle.crc.proofs.crc_from.Statement.{statement}
 use Rattle.crc.proofs.crc_from.Tie as tie
 
-abbrev invariant_loop : tie.invariant-loop
+abbrev invariant_loop : tie.invariant-loop-i
 invariant_loop register part c₀ i₀ i-end c i = (i ≤ i-end) × (crc_from c (drop i part) ≡ crc_from register part) × (c < 2 ^ 16)
 
-abbrev decreases_loop : tie.decreases-loop
+abbrev decreases_loop : tie.decreases-loop-i
 decreases_loop register part c₀ i₀ i-end c i = i-end - i
 
-loop_again : tie.Need-loop-preserved invariant_loop decreases_loop
+loop_again : tie.Need-loop-i-preserved invariant_loop decreases_loop
 loop_again c =
     let at = c.before.before.before in
     let part = at.before.before.args.part.now in (
       omega arith,
-      ap (λ (x : ℕ). crc_from x (drop (at.loop.i + 1) part)) c.crc-byte.ensures
-          ∙ crc_more at.loop.c part at.loop.i (omega arith)
-          ∙ at.loop.invariant.1,
-      rw c.crc-byte.ensures (byte_lt at.loop.c _ at.loop.invariant.2 (omega (arith, c.before.shared-slice-known2.given at.loop.i))),
+      ap (λ (x : ℕ). crc_from x (drop (at.loop-i.i + 1) part)) c.crc_byte-c.ensures
+          ∙ crc_more at.loop-i.c part at.loop-i.i (omega arith)
+          ∙ at.loop-i.invariant.1,
+      rw c.crc_byte-c.ensures (byte_lt at.loop-i.c _ at.loop-i.invariant.2 (omega (arith, c.before.shared_slice_known-in-loop-i-1.given at.loop-i.i))),
     )
 
 returns : tie.Need-returns invariant_loop decreases_loop
-returns c = sym (crc_ended c.before.loop.c _ c.before.loop.i (omega arith)) ∙ c.before.loop.invariant.1
+returns c = sym (crc_ended c.before.loop-i.c _ c.before.loop-i.i (omega arith)) ∙ c.before.loop-i.invariant.1
 
 pub crc_from_spec : {M : Type 1} → statement M
 crc_from_spec =
