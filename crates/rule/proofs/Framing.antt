@@ -104,7 +104,7 @@ module _ {E : Type 0} (cuts : ℕ → E → Bool) (need : List ℕ → ℕ) wher
 
     both : (r : List (Item E)) → Fresh r × Within r
     unfolding Fresh Within feeds units
-    both [] = ((λ n t h. elim n [ zero ↦ refl | suc m ↦ refl ]), (λ n t a u g h. rw (front_end cuts need law (a ∷ u) t g)))
+    both [] = ((λ n t h. elim n as (λ k. cut_of (feeds cuts need (record { unfinished = []; last = t }) []) ≡ units cuts need k []) [ zero ↦ refl | suc m ↦ refl ]), (λ n t a u g h. rw (front_end cuts need law (a ∷ u) t g)))
     both (x ∷ r) =
         let ih = both r in
         (fresh_step x r ih.0 ih.1, within_step x r ih.0 ih.1)

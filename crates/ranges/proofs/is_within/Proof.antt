@@ -5,13 +5,13 @@ use borrow.Author.Tests.{le-leb, lt-leb}
 use Rattle.ranges.proofs.is_within.Statement.{statement}
 use Rattle.ranges.proofs.is_within.Tie as tie
 
-returns : tie.Need-returns
+returns : tie.Need-returns-then-lo-n
 unfolding within
-returns c = and_yes _ _ (le-leb _ _ c.if1.taken)
+returns c = and_yes _ _ (le-leb _ _ c.if-lo-n.true)
 
-returns_2 : tie.Need-returns-2
+returns_2 : tie.Need-returns-else-lo-n
 unfolding within
-returns_2 c = and_no _ _ (lt-leb _ _ c.if1.left)
+returns_2 c = and_no _ _ (lt-leb _ _ c.if-lo-n.false)
 
 pub is_within_spec : {M : Type 1} → statement M
 is_within_spec =

@@ -7,6 +7,6 @@ pub ruled_spec : {M : Type 1} → statement M
 ruled_spec =
     tie.close
     (tie.spec
-    (λ c. rw c.if1.taken)
-    (λ c. rw (c.before.if1.left, c.if2.taken))
-    (λ c. rw (c.before.if1.left, ne_eqb _ 0 c.if2.left)))
+    (λ c. rw c.if-kept.true)
+    (λ c. rw (c.before.if-kept.false, c.if-bad-eq0.true))
+    (λ c. rw (c.before.if-kept.false, ne_eqb _ 0 c.if-bad-eq0.false)))

@@ -15,4 +15,4 @@ u16_at_spec =
     (λ c. search rules)
     (λ c. search rules)
     (λ c. search rules)
-    (λ c. let a = c.before.before.before.args in omega (arith, le_at_2 a.at a.s.now, c.byte-at2.ensures, c.before.byte_at.ensures)))
+    (λ c. let a = c.before.before.before.args in omega (arith, le_at_2 a.at a.s.now, c.byte_at-2.ensures, c.before.byte_at.ensures)))
