@@ -10,6 +10,6 @@ pub bits_of_spec : {M : Type 1} → statement M
 bits_of_spec =
     tie.close
     (tie.spec
-    (λ c. no_nan _ c.if1.false)
-    (λ c. sym nan_bits_lem ∙ ap (to_bits binary32) (sym (is_nan_differs _ c.if1.true)))
+    (λ c. no_nan _ c.if-x.false)
+    (λ c. sym nan_bits_lem ∙ ap (to_bits binary32) (sym (is_nan_differs _ c.if-x.true)))
     (λ c. search rules))

@@ -11,4 +11,4 @@ f32_at_spec =
     (tie.spec
     (λ c κs. search rules)
     (λ c κs. search rules)
-    (λ c. c.f32-of.ensures ∙ ap (of_bits binary32) c.before.u32-at.ensures))
+    (λ c. c.f32_of.ensures ∙ ap (of_bits binary32) c.before.u32_at.ensures))

@@ -9,6 +9,6 @@ pub f32_of_spec : {M : Type 1} → statement M
 f32_of_spec =
     tie.close
     (tie.spec
-    (λ c. pattern_no_nan _ c.if1.false)
-    (λ c. zero_by_zero ∙ sym (pattern_nan _ c.if1.true))
+    (λ c. pattern_no_nan _ c.if-n-gt2139095040.false)
+    (λ c. zero_by_zero ∙ sym (pattern_nan _ c.if-n-gt2139095040.true))
     (λ c. search rules))

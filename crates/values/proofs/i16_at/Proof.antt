@@ -14,4 +14,4 @@ i16_at_spec =
     (tie.spec
     (λ c κs. search rules)
     (λ c κs. search rules)
-    (λ c. to_z-of_z w16 _ (sfits_of c.i16-of.type-inv) ∙ c.i16-of.ensures ∙ ap (to_z w16) c.before.u16-at.ensures))
+    (λ c. to_z-of_z w16 _ (sfits_of c.i16_of.type_inv) ∙ c.i16_of.ensures ∙ ap (to_z w16) c.before.u16_at.ensures))

@@ -14,4 +14,4 @@ i32_at_spec =
     (tie.spec
     (λ c κs. search rules)
     (λ c κs. search rules)
-    (λ c. to_z-of_z w32 _ (sfits_of c.i32-of.type-inv) ∙ c.i32-of.ensures ∙ ap (to_z w32) c.before.u32-at.ensures))
+    (λ c. to_z-of_z w32 _ (sfits_of c.i32_of.type_inv) ∙ c.i32_of.ensures ∙ ap (to_z w32) c.before.u32_at.ensures))

@@ -14,4 +14,4 @@ i64_at_spec =
     (tie.spec
     (λ c κs. search rules)
     (λ c κs. search rules)
-    (λ c. to_z-of_z w64 _ (sfits_of c.i64-of.type-inv) ∙ c.i64-of.ensures ∙ ap (to_z w64) c.before.u64-at.ensures))
+    (λ c. to_z-of_z w64 _ (sfits_of c.i64_of.type_inv) ∙ c.i64_of.ensures ∙ ap (to_z w64) c.before.u64_at.ensures))
