@@ -11,7 +11,7 @@ returns c =
     let copy = crc.before.before.before.before in
     let put = copy.before.before.before.before in
     let a = put.before.before.before.before.args in
-    c.before.before.put-2.ensures ∙ rw (crc.crc.ensures, copy.copy.ensures, put.put.ensures) (sym (frame_stored a.name a.section.now a.out-1.now))
+    c.before.before.put-2.ensures ∙ rw (crc.crc.ensures, copy.copy.ensures, put.put.ensures) (sym (frame_stored a.name a.section.now a.out.now))
 
 pub put_spec : {M : Type 1} → statement M
 put_spec =

@@ -10,9 +10,9 @@ use Rattle.brk.proofs.Brk.is_sound.Tie as tie
 returns : tie.Need-returns
 returns c =
     let d = c.before.before.before.before.before.args.part.now in
-    (tested (only_bits 3) _ _ _ _ _ c.before.before.before.u8-at.ensures c.before.before.has-only-bits.ensures
-    (zeroed 8 2 9 d _ _ c.before.u64-at.ensures
-    (zeroed_last 2 17 d _ c.u16-at.ensures)))
+    (tested (only_bits 3) _ _ _ _ _ c.before.before.before.u8_at.ensures c.before.before.has_only_bits.ensures
+    (zeroed 8 2 9 d _ _ c.before.u64_at.ensures
+    (zeroed_last 2 17 d _ c.u16_at.ensures)))
     ∙ sym (sound_tests brk_row d)
 
 pub is_sound_spec : {M : Type 1} → statement M

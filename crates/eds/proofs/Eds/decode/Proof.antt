@@ -15,4 +15,4 @@ decode_spec =
     (λ c κs. search rules)
     (λ c κs. search rules)
     (λ c κs. search rules)
-    (λ c. cc (back w32 c.before.before.before.i32-at.result c.before.before.before.i32-at.type-inv, back w16 c.before.before.i16-at.result c.before.before.i16-at.type-inv, back w32 c.before.i32-at2.result c.before.i32-at2.type-inv, back w16 c.i16-at2.result c.i16-at2.type-inv)))
+    (λ c. cc (back w32 c.before.before.before.i32_at.result c.before.before.before.i32_at.type_inv, back w16 c.before.before.i16_at.result c.before.before.i16_at.type_inv, back w32 c.before.i32_at-2.result c.before.i32_at-2.type_inv, back w16 c.i16_at-2.result c.i16_at-2.type_inv)))

@@ -7,7 +7,7 @@ use Rattle.eds.proofs.Eds.first_bad.Statement.{statement}
 use Rattle.eds.proofs.Eds.first_bad.Tie as tie
 
 returns : tie.Need-returns
-returns c = c.first-false.ensures ∙ rw (c.before.before.before.before.before.has-only-bits.ensures, c.before.before.before.before.has-only-bits2.ensures, c.before.before.before.is-signed-within.ensures, c.before.before.is-signed-within2.ensures) (ap (first_bad eds_row) c.before.before.before.before.before.before.numbers.ensures)
+returns c = c.first_false.ensures ∙ rw (c.before.before.before.before.before.has_only_bits.ensures, c.before.before.before.before.has_only_bits-2.ensures, c.before.before.before.is_signed_within.ensures, c.before.before.is_signed_within-2.ensures) (ap (first_bad eds_row) c.before.before.before.before.before.before.numbers-ns.ensures)
 
 pub first_bad_spec : {M : Type 1} → statement M
 first_bad_spec =

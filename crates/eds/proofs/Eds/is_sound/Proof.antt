@@ -10,12 +10,12 @@ use Rattle.eds.proofs.Eds.is_sound.Tie as tie
 returns : tie.Need-returns
 returns c =
     let d = c.before.before.before.before.before.before.before.before.before.before.before.args.part.now in
-    (tested (only_bits 15) _ _ _ _ _ c.before.before.before.before.before.before.before.before.before.u8-at.ensures c.before.before.before.before.before.before.before.before.has-only-bits.ensures
-    (tested (only_bits 7) _ _ _ _ _ c.before.before.before.before.before.before.before.u8-at2.ensures c.before.before.before.before.before.before.has-only-bits2.ensures
-    (tested (signed_within 255) _ _ _ _ _ c.before.before.before.before.before.u16-at.ensures c.before.before.before.before.is-signed-within.ensures
-    (tested (signed_within 255) _ _ _ _ _ c.before.before.before.u16-at2.ensures c.before.before.is-signed-within2.ensures
-    (zeroed 4 2 14 d _ _ c.before.u32-at.ensures
-    (zeroed_last 2 18 d _ c.u16-at3.ensures))))))
+    (tested (only_bits 15) _ _ _ _ _ c.before.before.before.before.before.before.before.before.before.u8_at.ensures c.before.before.before.before.before.before.before.before.has_only_bits.ensures
+    (tested (only_bits 7) _ _ _ _ _ c.before.before.before.before.before.before.before.u8_at-2.ensures c.before.before.before.before.before.before.has_only_bits-2.ensures
+    (tested (signed_within 255) _ _ _ _ _ c.before.before.before.before.before.u16_at.ensures c.before.before.before.before.is_signed_within.ensures
+    (tested (signed_within 255) _ _ _ _ _ c.before.before.before.u16_at-2.ensures c.before.before.is_signed_within-2.ensures
+    (zeroed 4 2 14 d _ _ c.before.u32_at.ensures
+    (zeroed_last 2 18 d _ c.u16_at-3.ensures))))))
     ∙ sym (sound_tests eds_row d)
 
 pub is_sound_spec : {M : Type 1} → statement M

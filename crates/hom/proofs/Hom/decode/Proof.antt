@@ -16,4 +16,4 @@ decode_spec =
     (λ c κs. search rules)
     (λ c κs. search rules)
     (λ c κs. search rules)
-    (λ c. cc (back w32 c.before.before.i32-at.result c.before.before.i32-at.type-inv, back w16 c.before.i16-at.result c.before.i16-at.type-inv)))
+    (λ c. cc (back w32 c.before.before.i32_at.result c.before.before.i32_at.type_inv, back w16 c.before.i16_at.result c.before.i16_at.type_inv)))

@@ -7,7 +7,7 @@ use Rattle.pwr.proofs.Pwr.first_bad.Statement.{statement}
 use Rattle.pwr.proofs.Pwr.first_bad.Tie as tie
 
 returns : tie.Need-returns
-returns c = c.first-false.ensures ∙ rw (c.before.before.before.is_Within.ensures, c.before.before.has-only-bits.ensures) (ap (first_bad pwr_row) c.before.before.before.before.numbers.ensures)
+returns c = c.first_false.ensures ∙ rw (c.before.before.before.is_within.ensures, c.before.before.has_only_bits.ensures) (ap (first_bad pwr_row) c.before.before.before.before.numbers-ns.ensures)
 
 pub first_bad_spec : {M : Type 1} → statement M
 first_bad_spec =

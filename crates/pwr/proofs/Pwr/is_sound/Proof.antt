@@ -10,10 +10,10 @@ use Rattle.pwr.proofs.Pwr.is_sound.Tie as tie
 returns : tie.Need-returns
 returns c =
     let d = c.before.before.before.before.before.before.before.args.part.now in
-    (tested (within 0 100) _ _ _ _ _ c.before.before.before.before.before.u8-at.ensures c.before.before.before.before.is_Within.ensures
-    (tested (only_bits 7) _ _ _ _ _ c.before.before.before.u8-at2.ensures c.before.before.has-only-bits.ensures
-    (zeroed 4 2 8 d _ _ c.before.u32-at.ensures
-    (zeroed_last 2 12 d _ c.u16-at.ensures))))
+    (tested (within 0 100) _ _ _ _ _ c.before.before.before.before.before.u8_at.ensures c.before.before.before.before.is_within.ensures
+    (tested (only_bits 7) _ _ _ _ _ c.before.before.before.u8_at-2.ensures c.before.before.has_only_bits.ensures
+    (zeroed 4 2 8 d _ _ c.before.u32_at.ensures
+    (zeroed_last 2 12 d _ c.u16_at.ensures))))
     ∙ sym (sound_tests pwr_row d)
 
 pub is_sound_spec : {M : Type 1} → statement M
