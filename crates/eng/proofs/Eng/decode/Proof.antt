@@ -17,4 +17,4 @@ decode_spec =
     (λ c κs. search rules)
     (λ c κs. search rules)
     (λ c κs. search rules)
-    (λ c. cc (back w16 c.before.before.i16-at.result c.before.before.i16-at.type-inv)))
+    (λ c. cc (back w16 c.before.before.i16_at.result c.before.before.i16_at.type_inv)))

@@ -7,7 +7,7 @@ use Rattle.eng.proofs.Eng.first_bad.Statement.{statement}
 use Rattle.eng.proofs.Eng.first_bad.Tie as tie
 
 returns : tie.Need-returns
-returns c = c.first-false.ensures ∙ rw (c.before.before.before.before.before.before.is_Within.ensures, c.before.before.before.before.before.is-within2.ensures, c.before.before.before.before.has-only-bits.ensures, c.before.before.before.is-within3.ensures, c.before.before.is-within4.ensures) (ap (first_bad eng_row) c.before.before.before.before.before.before.before.numbers.ensures)
+returns c = c.first_false.ensures ∙ rw (c.before.before.before.before.before.before.is_within.ensures, c.before.before.before.before.before.is_within-2.ensures, c.before.before.before.before.has_only_bits.ensures, c.before.before.before.is_within-3.ensures, c.before.before.is_within-4.ensures) (ap (first_bad eng_row) c.before.before.before.before.before.before.before.numbers-ns.ensures)
 
 pub first_bad_spec : {M : Type 1} → statement M
 first_bad_spec =

@@ -18,4 +18,4 @@ numbers_spec =
     (λ c. search rules)
     (λ c. search rules)
     (λ c. search rules)
-    (λ c. let at = c.before.before.before.before.before.before.before.before.before in let b = at.args.self in let g = at.well-formed.0.1.1 in cc (back w16 b.antiplay g.1.1.1.1.1.0.1)))
+    (λ c. let at = c.before.before.before.before.before.before.before.before.before in let b = at.args.self in let g = at.well_formed.0.1.1 in cc (back w16 b.antiplay g.1.1.1.1.1.0.1)))

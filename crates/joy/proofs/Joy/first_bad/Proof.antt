@@ -11,8 +11,8 @@ returns c =
     let sequence = c.before in
     let tests = sequence.before.before.before in
     c.ruled.ensures
-    ∙ rw (sequence.in-sequence.ensures, sequence.before.first-false.ensures, tests.before.before.before.is_Within.ensures, tests.before.before.is-within2.ensures, tests.before.is-within3.ensures, tests.has-only-bits.ensures)
-    (ap (first_bad joy_row) tests.before.before.before.before.numbers.ensures)
+    ∙ rw (sequence.in_sequence.ensures, sequence.before.first_false-bad.ensures, tests.before.before.before.is_within.ensures, tests.before.before.is_within-2.ensures, tests.before.is_within-3.ensures, tests.has_only_bits.ensures)
+    (ap (first_bad joy_row) tests.before.before.before.before.numbers-ns.ensures)
 
 pub first_bad_spec : {M : Type 1} → statement M
 first_bad_spec =

@@ -7,7 +7,7 @@ use Rattle.pid.proofs.Pid.first_bad.Statement.{statement}
 use Rattle.pid.proofs.Pid.first_bad.Tie as tie
 
 returns : tie.Need-returns
-returns c = c.first-false.ensures ∙ rw (c.before.before.before.before.is_finite.ensures, c.before.before.before.is-finite2.ensures, c.before.before.is-finite3.ensures) (ap (first_bad pid_row) c.before.before.before.before.before.numbers.ensures)
+returns c = c.first_false.ensures ∙ rw (c.before.before.before.before.is_finite.ensures, c.before.before.before.is_finite-2.ensures, c.before.before.is_finite-3.ensures) (ap (first_bad pid_row) c.before.before.before.before.before.numbers-ns.ensures)
 
 pub first_bad_spec : {M : Type 1} → statement M
 first_bad_spec =
