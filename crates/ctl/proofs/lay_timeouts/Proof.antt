@@ -7,24 +7,24 @@ use Rattle.wire.proofs.Runs.{Filling, fill_start, fill_step, fill_end}
 use Rattle.ctl.proofs.lay_timeouts.Statement.{statement}
 use Rattle.ctl.proofs.lay_timeouts.Tie as tie
 
-abbrev invariant_loop : tie.invariant-loop
+abbrev invariant_loop : tie.invariant-loop-k
 invariant_loop ns₀ run k₀ ns k = Filling ns₀ 20 run ns k
 
-abbrev decreases_loop : tie.decreases-loop
+abbrev decreases_loop : tie.decreases-loop-k
 decreases_loop ns₀ run k₀ ns k = 9 - k
 
-loop_again : tie.Need-loop-preserved invariant_loop decreases_loop
+loop_again : tie.Need-loop-k-preserved invariant_loop decreases_loop
 loop_again c =
     let s = c.before.before in
-    let l = c.before.loop in
-    fill_step s.args.ns.now 20 s.args.t2 l.ns l.k _ _ 0 (omega arith)
-    (omega (arith, c.loop-test.true, s.well-formed.1.0.1.0.1)) refl l.invariant
+    let l = c.before.loop-k in
+    fill_step s.args.ns.now 20 s.args.run l.ns l.k _ _ 0 (omega arith)
+    (omega (arith, c.loop-k-test.true, s.well_formed.1.0.1.0.1)) refl l.invariant
 
 returns : tie.Need-returns invariant_loop decreases_loop
 returns c =
     let s = c.before.before in
-    let l = c.before.loop in
-    fill_end s.args.ns.now 20 s.args.t2 l.ns l.k (omega (arith, c.loop-test.false, s.well-formed.1.0.1.0.1)) l.invariant
+    let l = c.before.loop-k in
+    fill_end s.args.ns.now 20 s.args.run l.ns l.k (omega (arith, c.loop-k-test.false, s.well_formed.1.0.1.0.1)) l.invariant
 
 pub lay_timeouts_spec : {M : Type 1} → statement M
 lay_timeouts_spec =
@@ -32,7 +32,7 @@ lay_timeouts_spec =
     (tie.spec
     invariant_loop
     decreases_loop
-    (λ c. fill_start c.args.ns.now 20 c.args.t2)
+    (λ c. fill_start c.args.ns.now 20 c.args.run)
     (λ c. search rules)
     (λ c. search rules)
     (λ c. search rules)

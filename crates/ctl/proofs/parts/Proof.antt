@@ -6,19 +6,19 @@ use Rattle.wire.proofs.Runs.{Reading, run_start, run_step, run_end}
 use Rattle.ctl.proofs.parts.Statement.{statement}
 use Rattle.ctl.proofs.parts.Tie as tie
 
-abbrev invariant_loop : tie.invariant-loop
+abbrev invariant_loop : tie.invariant-loop-k
 invariant_loop part run₀ k₀ run k = Reading 10 1 40 part run k
 
-abbrev decreases_loop : tie.decreases-loop
+abbrev decreases_loop : tie.decreases-loop-k
 decreases_loop part run₀ k₀ run k = 10 - k
 
-loop_again : tie.Need-loop-preserved invariant_loop decreases_loop
+loop_again : tie.Need-loop-k-preserved invariant_loop decreases_loop
 loop_again c =
-    let l = c.before.before.loop in
-    run_step 10 1 40 _ l.run l.k _ _ (omega arith) c.before.loop-test.true c.u8-at.ensures l.invariant
+    let l = c.before.before.loop-k in
+    run_step 10 1 40 _ l.run l.k _ _ (omega arith) c.before.loop-k-test.true c.u8_at.ensures l.invariant
 
 returns : tie.Need-returns invariant_loop decreases_loop
-returns c = run_end 10 1 40 _ c.before.loop.run c.before.loop.k c.loop-test.false c.before.loop.invariant
+returns c = run_end 10 1 40 _ c.before.loop-k.run c.before.loop-k.k c.loop-k-test.false c.before.loop-k.invariant
 
 pub parts_spec : {M : Type 1} → statement M
 parts_spec =

@@ -12,4 +12,4 @@ count_number_spec =
     tie.close
     (tie.spec
     (λ c κs. search rules)
-    (λ c. c.u64-of.ensures ∙ ap (of_z w64) (back w64 c.before.before.args.count.0 c.before.struct_told.given.0.1)))
+    (λ c. c.u64_of.ensures ∙ ap (of_z w64) (back w64 c.before.before.args.count.0 c.before.struct_told-1.given.0.1)))

@@ -13,4 +13,4 @@ microsteps_number_spec =
     (tie.spec
     (λ c κs. search rules)
     (λ c. search rules)
-    (λ c. c.u16-of.ensures ∙ ap (of_z w16) (back w16 c.before.before.args.microsteps.0 c.before.struct_told.given.0.1)))
+    (λ c. c.u16_of.ensures ∙ ap (of_z w16) (back w16 c.before.before.args.microsteps.0 c.before.struct_told-1.given.0.1)))

@@ -13,4 +13,4 @@ steps_number_spec =
     (tie.spec
     (λ c κs. search rules)
     (λ c. search rules)
-    (λ c. c.u32-of.ensures ∙ ap (of_z w32) (back w32 c.before.before.args.steps.0 c.before.struct_told.given.0.1)))
+    (λ c. c.u32_of.ensures ∙ ap (of_z w32) (back w32 c.before.before.args.steps.0 c.before.struct_told-1.given.0.1)))

@@ -6,5 +6,5 @@ pub travelled_spec : {M : Type 1} → statement M
 travelled_spec =
     tie.close
     (tie.spec
-    (λ c. rw c.before.before.before.if1.true)
-    (λ c. rw c.if1.false))
+    (λ c. rw c.before.before.before.if-leaves.true)
+    (λ c. rw c.if-leaves.false))

@@ -8,14 +8,14 @@ use Rattle.ctl.proofs.Ctl.decode.Tie as tie
 
 returns : tie.Need-returns
 returns c =
-    let shift = back w32 c.before.i32-at.result c.before.i32-at.type-inv ∙ c.before.i32-at.ensures in
-    let micro = back w16 c.i16-at.result c.i16-at.type-inv ∙ c.i16-at.ensures in
+    let shift = back w32 c.before.i32_at.result c.before.i32_at.type_inv ∙ c.before.i32_at.ensures in
+    let micro = back w16 c.i16_at.result c.i16_at.type_inv ∙ c.i16_at.ensures in
     (λ i. record {
-      maxSpeed = c.before.before.before.before.before.before.speeds.ensures i;
-      uMaxSpeed = c.before.before.before.before.before.parts.ensures i;
-      timeout = c.before.before.before.before.timeouts.ensures i;
-      maxClickTime = c.before.before.before.u16-at.ensures i;
-      flags = c.before.before.u16-at2.ensures i;
+      maxSpeed = c.before.before.before.before.before.before.speeds-maxSpeed.ensures i;
+      uMaxSpeed = c.before.before.before.before.before.parts-uMaxSpeed.ensures i;
+      timeout = c.before.before.before.before.timeouts-timeout.ensures i;
+      maxClickTime = c.before.before.before.u16_at.ensures i;
+      flags = c.before.before.u16_at-2.ensures i;
       deltaPosition = shift i;
       uDeltaPosition = micro i;
     })

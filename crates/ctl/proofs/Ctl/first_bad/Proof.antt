@@ -9,8 +9,8 @@ use Rattle.ctl.proofs.Ctl.first_bad.Tie as tie
 
 returns : tie.Need-returns
 returns c =
-    let bad = c.before.before.first-false.ensures ∙ ap (first_false 1) c.before.before.before.before.tests-of.ensures in
-    c.ruled.ensures ∙ (λ i. ruled (bad i) (c.before.not-both-zero.ensures i)) ∙ ap (first_bad ctl_row) c.before.before.before.before.before.numbers.ensures
+    let bad = c.before.before.first_false.ensures ∙ ap (first_false 1) c.before.before.before.before.tests_of-tests.ensures in
+    c.ruled.ensures ∙ (λ i. ruled (bad i) (c.before.not_both_zero.ensures i)) ∙ ap (first_bad ctl_row) c.before.before.before.before.before.numbers-ns.ensures
 
 pub first_bad_spec : {M : Type 1} → statement M
 first_bad_spec =

@@ -18,14 +18,14 @@ returns c =
     let flags = micro.before.before in
     let speeds = flags.before.before in
     let d = speeds.before.before.args.part.now in
-    let kept : rule.not-both-zero.result ≡ ctl_row.rule (numbers_in ctl_row d) =
-    rule.not-both-zero.ensures ∙ (λ i. not (eqb (rule.before.before.u32-at.ensures i) 0 && eqb (rule.before.u8-at.ensures i) 0)) in
-    let reserved = zeroed 8 1 78 d _ _ c.before.u64-at.ensures (zeroed_last 1 86 d _ c.u8-at2.ensures) in
+    let kept : rule.not_both_zero.result ≡ ctl_row.rule (numbers_in ctl_row d) =
+    rule.not_both_zero.ensures ∙ (λ i. not (eqb (rule.before.before.u32_at.ensures i) 0 && eqb (rule.before.u8_at.ensures i) 0)) in
+    let reserved = zeroed 8 1 78 d _ _ c.before.u64_at.ensures (zeroed_last 1 86 d _ c.u8_at-2.ensures) in
     let others =
-    tested (only_bits 0x0F) _ _ _ _ _ flags.before.u16-at.ensures flags.has-only-bits.ensures
-    (tested (signed_within 255) _ _ _ _ _ micro.before.u16-at2.ensures micro.is-signed-within.ensures
+    tested (only_bits 0x0F) _ _ _ _ _ flags.before.u16_at.ensures flags.has_only_bits.ensures
+    (tested (signed_within 255) _ _ _ _ _ micro.before.u16_at-2.ensures micro.is_signed_within.ensures
     (λ i. kept i && reserved i)) in
-    (λ i. speeds.speeds-within.ensures i && others i) ∙ first_none 0 (speed_tests (numbers_in ctl_row d)) _ ∙ sym (sound_tests ctl_row d)
+    (λ i. speeds.speeds_within.ensures i && others i) ∙ first_none 0 (speed_tests (numbers_in ctl_row d)) _ ∙ sym (sound_tests ctl_row d)
 
 pub is_sound_spec : {M : Type 1} → statement M
 is_sound_spec =

@@ -3,7 +3,7 @@ use mathlib.Core.Path.{◌≡◌, ap, ◌∙◌}
 use mathlib.Core.List.{List, [], ◌∷◌, ◌++◌}
 use Prim.Native.Nat.{ℕ}
 use native.Mathlib.Omega.{arith}
-use lib.ListN.{length, set, replicate, length-append, length-map}
+use lib.ListN.{length, set, replicate, length-append}
 use lib.Seq.{sets}
 use mir.Syntax.{w16, w32}
 use mir.Val.{of_z}
@@ -33,14 +33,14 @@ returns c =
     let first = second.before.before in
     let at = first.before.before.before.before.before in
     let b = at.args.self in
-    let g = at.well-formed.0.1.1 in
-    let parts = second.lay-parts.ensures ∙ ap (λ (s : List ℕ). sets s 10 b.uMaxSpeed) first.lay-speeds.ensures in
-    let arrays = third.lay-timeouts.ensures ∙ ap (λ (s : List ℕ). sets s 20 b.timeout) parts in
-    let shift = c.before.before.u32-of.ensures ∙ ap (of_z w32) (back w32 b.deltaPosition g.1.1.1.1.1.0.1) in
-    let micro = c.u16-of.ensures ∙ ap (of_z w16) (back w16 b.uDeltaPosition g.1.1.1.1.1.1.0.1) in
+    let g = at.well_formed.0.1.1 in
+    let parts = second.lay_parts.ensures ∙ ap (λ (s : List ℕ). sets s 10 b.uMaxSpeed) first.lay_speeds.ensures in
+    let arrays = third.lay_timeouts.ensures ∙ ap (λ (s : List ℕ). sets s 20 b.timeout) parts in
+    let shift = c.before.before.u32_of.ensures ∙ ap (of_z w32) (back w32 b.deltaPosition g.1.1.1.1.1.0.1) in
+    let micro = c.u16_of.ensures ∙ ap (of_z w16) (back w16 b.uDeltaPosition g.1.1.1.1.1.1.0.1) in
     (λ i. set (set (set (set (arrays i) 29 b.maxClickTime) 30 b.flags) 31 (shift i)) 32 (micro i))
     ∙ whole b.maxSpeed b.uMaxSpeed b.timeout b.maxClickTime b.flags (of_z w32 b.deltaPosition) (of_z w16 b.uDeltaPosition)
-    (simp length-map at g.0.1.0.1) (simp length-map at g.1.0.1.0.1) (simp length-map at g.1.1.0.1.0.1)
+    g.0.1.0.1 g.1.0.1.0.1 g.1.1.0.1.0.1
 
 pub numbers_spec : {M : Type 1} → statement M
 numbers_spec =

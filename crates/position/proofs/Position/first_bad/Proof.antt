@@ -12,4 +12,4 @@ first_bad_spec =
     (λ c κs. search rules)
     (λ c. search rules)
     (λ c κs. search rules)
-    (λ c. c.first-false.ensures ∙ rw (c.before.before.is-signed-within.ensures, c.before.before.before.microsteps-number.ensures)))
+    (λ c. c.first_false.ensures ∙ rw (c.before.before.is_signed_within.ensures, c.before.before.before.microsteps_number-n.ensures)))

@@ -13,4 +13,4 @@ decode_spec =
     (λ c κs. search rules)
     (λ c κs. search rules)
     (λ c κs. search rules)
-    (λ c. rw (back w32 c.before.before.before.i32-at.result c.before.before.before.i32-at.type-inv, back w16 c.before.before.i16-at.result c.before.before.i16-at.type-inv, back w64 c.before.i64-at.result c.before.i64-at.type-inv, c.before.before.before.i32-at.ensures, c.before.before.i16-at.ensures, c.before.i64-at.ensures, c.u8-at.ensures)))
+    (λ c. rw (back w32 c.before.before.before.i32_at.result c.before.before.before.i32_at.type_inv, back w16 c.before.before.i16_at.result c.before.before.i16_at.type_inv, back w64 c.before.i64_at.result c.before.i64_at.type_inv, c.before.before.before.i32_at.ensures, c.before.before.i16_at.ensures, c.before.i64_at.ensures, c.u8_at.ensures)))

@@ -14,4 +14,4 @@ first_bad_spec =
     (λ c κs. search rules)
     (λ c. search rules)
     (λ c κs. search rules)
-    (λ c. c.first-false.ensures ∙ rw (c.before.before.has-only-bits.ensures, c.before.before.before.before.is-signed-within.ensures, c.before.before.before.before.before.microsteps-number.ensures)))
+    (λ c. c.first_false.ensures ∙ rw (c.before.before.has_only_bits.ensures, c.before.before.before.before.is_signed_within.ensures, c.before.before.before.before.before.microsteps_number-n.ensures)))

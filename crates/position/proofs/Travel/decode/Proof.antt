@@ -11,4 +11,4 @@ decode_spec =
     (tie.spec
     (λ c κs. search rules)
     (λ c κs. search rules)
-    (λ c. rw (back w32 c.before.i32-at.result c.before.i32-at.type-inv, back w16 c.i16-at.result c.i16-at.type-inv, c.before.i32-at.ensures, c.i16-at.ensures)))
+    (λ c. rw (back w32 c.before.i32_at.result c.before.i32_at.type_inv, back w16 c.i16_at.result c.i16_at.type_inv, c.before.i32_at.ensures, c.i16_at.ensures)))
