@@ -10,5 +10,5 @@ digit_spec =
     (tie.spec
     (λ c. search rules)
     (λ c. search rules)
-    (λ c. rw (lt-ltb c.before.args.d 10 c.if1.true))
-    (λ c. rw (le-ltb c.before.args.d 10 c.if1.false)))
+    (λ c. rw (lt-ltb c.before.args.d 10 c.if-d-lt10.true))
+    (λ c. rw (le-ltb c.before.args.d 10 c.if-d-lt10.false)))

@@ -6,8 +6,8 @@ use lib.Seq.{set_out}
 use Rattle.text.proofs.write_byte.Statement.{statement}
 use Rattle.text.proofs.write_byte.Tie as tie
 
-returns : tie.Need-returns
-returns c = let a = c.before.args in record { bytes = sym (set_out a.out.now a.at a.b c.if1.true); behind = omega arith }
+returns : tie.Need-returns-then-out-at
+returns c = let a = c.before.args in record { bytes = sym (set_out a.out.now a.at a.b c.if-out-at.true); behind = omega arith }
 
 pub write_byte_spec : {M : Type 1} → statement M
 write_byte_spec =

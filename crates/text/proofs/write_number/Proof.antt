@@ -11,4 +11,4 @@ write_number_spec =
     (λ c κs. search rules)
     (λ c κs. search rules)
     (λ c. search rules)
-    (λ c. let last = c.before.before in then last.before.before.before.before.write-decimal.ensures last.write_byte.ensures))
+    (λ c. let last = c.before.before in then last.before.before.before.before.write_decimal-last.ensures last.write_byte.ensures))
