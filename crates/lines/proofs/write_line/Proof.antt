@@ -14,11 +14,11 @@ returns c =
     let order = space.before.before.before.before in
     let taken = order.before.before.before.before in
     let stamp = taken.before.before.before.before in
-    then stamp.write-number.ensures
-    (then taken.write-number2.ensures
-    (then order.write-order.ensures
-    (then space.write_byte.ensures
-    (then reply.write-reply.ensures end.write-byte2.ensures))))
+    then stamp.write_number-a.ensures
+    (then taken.write_number-b.ensures
+    (then order.write_order-c.ensures
+    (then space.write_byte-d.ensures
+    (then reply.write_reply-e.ensures end.write_byte.ensures))))
 
 pub write_line_spec : {M : Type 1} → statement M
 write_line_spec =

@@ -8,26 +8,26 @@ use Rattle.lines.proofs.Lines.{bare_order, travel_order}
 use Rattle.lines.proofs.write_order.Statement.{statement}
 use Rattle.lines.proofs.write_order.Tie as tie
 
-returns : tie.Need-returns
+returns : tie.Need-returns-then-number-lt8
 returns c =
     let digits = c.before.before.before in
-    let number = digits.before.before.order-number in
+    let number = digits.before.before.order_number-number in
     let a = digits.before.before.before.before.args in
-    rw (bare_order a.order number.result number.ensures c.if1.true) digits.write-decimal.ensures
+    rw (bare_order a.order number.result number.ensures c.if-number-lt8.true) digits.write_decimal-last.ensures
 
-returns_2 : tie.Need-returns-2
+returns_2 : tie.Need-returns
 returns_2 c =
     let travel = c.before.before in
     let microsteps = travel.before.before in
     let steps = microsteps.before in
     let test = steps.before in
     let digits = test.before.before.before in
-    let number = digits.before.before.order-number in
+    let number = digits.before.before.order_number-number in
     let a = digits.before.before.before.before.args in
-    let same : ◌≡◌ {A = Travel} (record { steps = steps.order-steps.result; microsteps = microsteps.order-microsteps.result }) (order_travel a.order) =
-    λ i. record { steps = steps.order-steps.ensures i; microsteps = microsteps.order-microsteps.ensures i } in
-    rw (travel_order a.order number.result number.ensures test.if1.false, ← same)
-    (then digits.write-decimal.ensures travel.write-travel.ensures)
+    let same : ◌≡◌ {A = Travel} (record { steps = steps.order_steps.result; microsteps = microsteps.order_microsteps.result }) (order_travel a.order) =
+    λ i. record { steps = steps.order_steps.ensures i; microsteps = microsteps.order_microsteps.ensures i } in
+    rw (travel_order a.order number.result number.ensures test.if-number-lt8.false, ← same)
+    (then digits.write_decimal-last.ensures travel.write_travel.ensures)
 
 pub write_order_spec : {M : Type 1} → statement M
 write_order_spec =

@@ -17,12 +17,12 @@ returns c =
     let wide = first.before.before in
     let start = wide.before.before.before in
     let t = start.before.before.args.travel in
-    let told = start.struct_told.given in
-    let s = widened w32 t.steps.0 tt (record { sfits = told.0.1.1.0.1 }) wide.before.before.wide32.ensures in
-    let m = widened w16 t.microsteps.0 tt (record { sfits = told.1.0.1.1.0.1 }) wide.wide16.ensures in
-    rw (← s, ← m) (then first.write_byte.ensures
-    (then steps.write-signed.ensures
-    (then second.write-byte2.ensures microsteps.write-signed2.ensures)))
+    let told = start.struct_told-1.given in
+    let s = widened w32 t.steps.0 tt (record { sfits = told.0.1.1.0.1 }) wide.before.before.wide32-steps.ensures in
+    let m = widened w16 t.microsteps.0 tt (record { sfits = told.1.0.1.1.0.1 }) wide.wide16-microsteps.ensures in
+    rw (← s, ← m) (then first.write_byte-a.ensures
+    (then steps.write_signed-b.ensures
+    (then second.write_byte-c.ensures microsteps.write_signed.ensures)))
 
 pub write_travel_spec : {M : Type 1} → statement M
 write_travel_spec =

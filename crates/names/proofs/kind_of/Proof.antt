@@ -5,13 +5,13 @@ use Rattle.names.specs.Names.{kind_from}
 use Rattle.names.proofs.kind_of.Statement.{statement}
 use Rattle.names.proofs.kind_of.Tie as tie
 
-zero : tie.Need-returns
+zero : tie.Need-returns-then-first-eq0
 unfolding kind_from
-zero c = rw (eq-eqb _ 0 c.if1.true)
+zero c = rw (eq-eqb _ 0 c.if-first-eq0.true)
 
-named : tie.Need-returns-2
+named : tie.Need-returns
 unfolding kind_from
-named c = rw (ne_eqb _ 0 c.before.if1.false) c.kind_named.ensures
+named c = rw (ne_eqb _ 0 c.before.if-first-eq0.false) c.kind_named.ensures
 
 pub kind_of_spec : {M : Type 1} → statement M
 kind_of_spec = tie.close (tie.spec zero (λ c κs. search rules) named)

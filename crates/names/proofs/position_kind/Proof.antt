@@ -4,40 +4,40 @@ use Rattle.names.specs.Names.{position_kind}
 use Rattle.names.proofs.position_kind.Statement.{statement}
 use Rattle.names.proofs.position_kind.Tie as tie
 
-to : tie.Need-returns
+to : tie.Need-returns-then-name-eq-MOVE
 unfolding position_kind
-to c = rw (eq-eqb _ _ c.if1.true)
+to c = rw (eq-eqb _ _ c.if-name-eq-MOVE.true)
 
-by : tie.Need-returns-2
+by : tie.Need-returns-then-name-eq-MOVR
 unfolding position_kind
-by c = rw (ne_eqb _ _ c.before.if1.false, eq-eqb _ _ c.if2.true)
+by c = rw (ne_eqb _ _ c.before.if-name-eq-MOVE.false, eq-eqb _ _ c.if-name-eq-MOVR.true)
 
-spos : tie.Need-returns-3
+spos : tie.Need-returns-then-name-eq-SET
 unfolding position_kind
-spos c = let b = c.before in rw (ne_eqb _ _ b.before.if1.false, ne_eqb _ _ b.if2.false, eq-eqb _ _ c.if3.true)
+spos c = let b = c.before in rw (ne_eqb _ _ b.before.if-name-eq-MOVE.false, ne_eqb _ _ b.if-name-eq-MOVR.false, eq-eqb _ _ c.if-name-eq-SET.true)
 
-gpos : tie.Need-returns-4
+gpos : tie.Need-returns-then-name-eq-GET
 unfolding position_kind
 gpos c =
     let d = c.before in
     let b = d.before in
-    rw (ne_eqb _ _ b.before.if1.false, ne_eqb _ _ b.if2.false, ne_eqb _ _ d.if3.false, eq-eqb _ _ c.if4.true)
+    rw (ne_eqb _ _ b.before.if-name-eq-MOVE.false, ne_eqb _ _ b.if-name-eq-MOVR.false, ne_eqb _ _ d.if-name-eq-SET.false, eq-eqb _ _ c.if-name-eq-GET.true)
 
-zero : tie.Need-returns-5
+zero : tie.Need-returns-then-name-eq-ZERO
 unfolding position_kind
 zero c =
     let e = c.before in
     let d = e.before in
     let b = d.before in
-    rw (ne_eqb _ _ b.before.if1.false, ne_eqb _ _ b.if2.false, ne_eqb _ _ d.if3.false, ne_eqb _ _ e.if4.false, eq-eqb _ _ c.if5.true)
+    rw (ne_eqb _ _ b.before.if-name-eq-MOVE.false, ne_eqb _ _ b.if-name-eq-MOVR.false, ne_eqb _ _ d.if-name-eq-SET.false, ne_eqb _ _ e.if-name-eq-GET.false, eq-eqb _ _ c.if-name-eq-ZERO.true)
 
-none : tie.Need-returns-6
+none : tie.Need-returns
 unfolding position_kind
 none c =
     let e = c.before in
     let d = e.before in
     let b = d.before in
-    rw (ne_eqb _ _ b.before.if1.false, ne_eqb _ _ b.if2.false, ne_eqb _ _ d.if3.false, ne_eqb _ _ e.if4.false, ne_eqb _ _ c.if5.false)
+    rw (ne_eqb _ _ b.before.if-name-eq-MOVE.false, ne_eqb _ _ b.if-name-eq-MOVR.false, ne_eqb _ _ d.if-name-eq-SET.false, ne_eqb _ _ e.if-name-eq-GET.false, ne_eqb _ _ c.if-name-eq-ZERO.false)
 
 pub position_kind_spec : {M : Type 1} → statement M
 position_kind_spec = tie.close (tie.spec to by spos gpos zero none)

@@ -7,10 +7,10 @@ use Rattle.table.proofs.Spots.{spot_fits, section_of_lem}
 use Rattle.table.proofs.get.Statement.{statement}
 use Rattle.table.proofs.get.Tie as tie
 
-add_part : tie.Need-overflow-add-part
+add_part : tie.Need-overflow_add-spot
 add_part c =
     let at = c.before.before.before in
-    record { fits = omega (arith, spot_fits at.before.before.args.number at.spot_of_lem.result at.spot_of_lem.ensures) }
+    record { fits = omega (arith, spot_fits at.before.before.args.number at.spot_of-spot.result at.spot_of-spot.ensures) }
 
 returns : tie.Need-returns
 returns c =
@@ -20,7 +20,7 @@ returns c =
     let at = bytes.before in
     let a = at.before.before.args in
     copied.copy.ensures
-    ∙ ap (sets a.out.now 0) (section.part.ensures ∙ section_of_lem a.number at.spot_of_lem.result at.spot_of_lem.ensures a.table.now bytes.bytes.given.0)
+    ∙ ap (sets a.out.now 0) (section.part.ensures ∙ section_of_lem a.number at.spot_of-spot.result at.spot_of-spot.ensures a.table.now bytes.bytes-1.given)
 
 pub get_spec : {M : Type 1} → statement M
 get_spec =

@@ -9,14 +9,14 @@ part_spec =
     tie.close
     (tie.spec
     (λ c. search rules)
-    (λ c. let a = c.before.before.args in part_none a.bytes.now a.at a.n c.before.if1.true)
+    (λ c. part_none c.args.bytes.now c.args.at c.args.n c.if-bytes-at.true)
     (λ c. search rules)
     (λ c. search rules)
     (λ c. search rules)
     (λ c. search rules)
-    (λ c. let a = c.before.before.before.args in part_rest a.bytes.now a.at a.n c.before.if2.true)
+    (λ c. part_rest c.args.bytes.now c.args.at c.args.n c.if-bytes-at-2.true)
     (λ c. search rules)
     (λ c. search rules)
     (λ c. search rules)
     (λ c. search rules)
-    (λ c. let a = c.before.before.before.args in part_in a.bytes.now a.at a.n))
+    (λ c. part_in c.args.bytes.now c.args.at c.args.n))
