@@ -14,22 +14,17 @@ use Rattle.request.proofs.write.Tie as tie
 named_as : {before after : List ℕ} {r : Written} (n m : ℕ) → n ≡ m → Writes 0 (le_bytes 4 n) before r after → Writes 0 (le_bytes 4 m) before r after
 named_as n m e w = rw e at w
 
-returns : tie.Need-returns
+returns : tie.Need-returns-in-Get
 returns c =
-    let w = c.before.before in
-    let h = w.before.before in
-    rw h.before.before.request.given.1 (named_as _ _ (ap (λ (x : Head). x.get) h.head_of.ensures) w.write-name.ensures)
+    rw c.in-Get.is (named_as _ _ (ap (λ (x : Head). x.get) c.head_of-head.ensures) c.write_name.ensures)
 
-returns_2 : tie.Need-returns-2
+returns_2 : tie.Need-returns-in-Set
 returns_2 c =
-    let w = c.before.before in
-    rw w.before.before.before.request2.given.1 w.write-set.ensures
+    rw c.in-Set.is c.write_set.ensures
 
-returns_3 : tie.Need-returns-3
+returns_3 : tie.Need-returns-in-Give
 returns_3 c =
-    let w = c.before.before in
-    let o = w.before.before in
-    rw o.before.before.request3.given.1 (named_as _ _ o.order-name.ensures w.write-name2.ensures)
+    rw c.in-Give.is (named_as _ _ c.order_name.ensures c.write_name-in-Give.ensures)
 
 pub write_spec : {M : Type 1} → statement M
 write_spec =

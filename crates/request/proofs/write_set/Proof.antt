@@ -45,43 +45,43 @@ some n h e = omega arith
 none : (n : ℕ) → n ≤ 0 → n ≡ 0
 none n h = omega arith
 
-returns : tie.Need-returns
+returns : tie.Need-returns-then-bad-gt0
 returns c =
     let b = c.before in
     let a = b.before.before.args in
-    says_out_of_range (first_bad_of a.set) (set_frame a.set) a.out.now (λ z. some _ c.if1.true (b.first-bad.ensures ∙ z))
+    says_out_of_range (first_bad_of a.set) (set_frame a.set) a.out.now (λ z. some _ c.if-bad-gt0.true (b.first_bad-bad.ensures ∙ z))
 
-returns_2 : tie.Need-returns-2
+returns_2 : tie.Need-returns-then-out-total
 returns_2 c =
     let h = c.before in
     let k = h.before in
     let i = k.before in
     let b = i.before in
     let a = b.before.before.args in
-    says_too_short (first_bad_of a.set) (set_frame a.set) a.out.now (sym b.first-bad.ensures ∙ none _ i.if1.false)
-    (omega (arith, c.if2.true, set_length a.set, total_is a.set k.Block-of.result k.Block-of.ensures h.head_of.result h.head_of.ensures))
+    says_too_short (first_bad_of a.set) (set_frame a.set) a.out.now (sym b.first_bad-bad.ensures ∙ none _ i.if-bad-gt0.false)
+    (omega (arith, c.if-out-total.true, set_length a.set, total_is a.set k.block_of.result k.block_of.ensures h.head_of-head.result h.head_of-head.ensures))
 
-sub_n : tie.Need-overflow-sub-n
+sub_n : tie.Need-overflow_sub-n
 sub_n c =
     let h = c.before.before.before.before in
     let k = h.before in
-    long k.before.before.before.before.args.set k.Block-of.result k.Block-of.ensures h.head_of.result h.head_of.ensures
+    long k.before.before.before.before.args.set k.block_of.result k.block_of.ensures h.head_of-head.result h.head_of-head.ensures
 
-array_share_prefix_section : tie.Need-array-share-prefix-section
+array_share_prefix_section : tie.Need-slice_bounds-section-end
 array_share_prefix_section c =
     let e = c.before.before in
     let h = e.before.before.before in
     let k = h.before in
-    fits k.before.before.before.before.args.set k.Block-of.result k.Block-of.ensures h.head_of.result h.head_of.ensures _ _ refl e.encode.ensures
+    fits k.before.before.before.before.args.set k.block_of.result k.block_of.ensures h.head_of-head.result h.head_of-head.ensures _ _ refl e.encode.ensures
 
-slice_aggregate_put : tie.Need-slice-aggregate-put
+slice_aggregate_put : tie.Need-slice_bounds-put-end
 slice_aggregate_put c =
     let e = c.before.before.before in
     let h = e.before.before.before in
     let k = h.before in
-    sym (length-take-le _ _ (fits k.before.before.before.before.args.set k.Block-of.result k.Block-of.ensures h.head_of.result h.head_of.ensures _ _ refl e.encode.ensures))
+    sym (length-take-le _ _ (fits k.before.before.before.before.args.set k.block_of.result k.block_of.ensures h.head_of-head.result h.head_of-head.ensures _ _ refl e.encode.ensures))
 
-returns_3 : tie.Need-returns-3
+returns_3 : tie.Need-returns
 returns_3 c =
     let p = c.before.before in
     let e = p.before.before.before.before in
@@ -92,10 +92,10 @@ returns_3 c =
     let b = i.before in
     let a = b.before.before.args in
     let f = a.set in
-    let total_of = total_is f k.Block-of.result k.Block-of.ensures h.head_of.result h.head_of.ensures in
-    says_frame (first_bad_of f) (set_frame f) a.out.now h.head_of.result.total _ (sym b.first-bad.ensures ∙ none _ i.if1.false)
-    (omega (arith, t.if2.false, set_length f, total_of)) (total_of ∙ sym (set_length f))
-    (p.put.ensures ∙ ap (sets a.out.now 0) (framed_is f k.Block-of.result k.Block-of.ensures h.head_of.result h.head_of.ensures _ _ refl e.encode.ensures))
+    let total_of = total_is f k.block_of.result k.block_of.ensures h.head_of-head.result h.head_of-head.ensures in
+    says_frame (first_bad_of f) (set_frame f) a.out.now h.head_of-head.result.total _ (sym b.first_bad-bad.ensures ∙ none _ i.if-bad-gt0.false)
+    (omega (arith, t.if-out-total.false, set_length f, total_of)) (total_of ∙ sym (set_length f))
+    (p.put.ensures ∙ ap (sets a.out.now 0) (framed_is f k.block_of.result k.block_of.ensures h.head_of-head.result h.head_of-head.ensures _ _ refl e.encode.ensures))
 
 pub write_set_spec : {M : Type 1} → statement M
 write_set_spec =

@@ -11,7 +11,7 @@ returns : tie.Need-returns
 returns c =
     let put = c.before.before in
     let name = put.before in
-    put.put.ensures ∙ ap (λ (n : ℕ). sets name.before.before.before.before.args.reply.now 0 (le_bytes 4 n)) name.u32-at.ensures
+    put.put.ensures ∙ ap (λ (n : ℕ). sets name.before.before.before.before.args.reply.now 0 (le_bytes 4 n)) name.u32_at.ensures
 
 pub echo_spec : {M : Type 1} → statement M
 echo_spec = tie.close (tie.spec (λ c κs. search rules) (λ c. search rules) (λ c κs. search rules) (λ c. search rules) returns)
