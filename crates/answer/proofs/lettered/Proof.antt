@@ -5,15 +5,13 @@ use Rattle.answer.proofs.Ways.{sets_as}
 use Rattle.answer.proofs.lettered.Statement.{statement}
 use Rattle.answer.proofs.lettered.Tie as tie
 
-returns : tie.Need-returns
+returns : tie.Need-returns-in-Known
 returns c =
-    let f = c.before.before.before in
-    sets_as f.before.before.args.name _ f.before.set_named.ensures _ f.block_at.ensures _ c.before.found.given.1 _ refl
+    sets_as c.args.name _ c.set_named.ensures _ c.block_at-found.ensures _ c.in-Known.is _ refl
 
-returns_2 : tie.Need-returns-2
+returns_2 : tie.Need-returns-in-Nobody
 returns_2 c =
-    let f = c.before.before.before in
-    sets_as f.before.before.args.name _ f.before.set_named.ensures _ f.block_at.ensures _ c.before.enum_told.given.1 _ c.order-answer.ensures
+    sets_as c.args.name _ c.set_named.ensures _ c.block_at-found.ensures _ c.in-Nobody.is _ c.order_answer.ensures
 
 pub lettered_spec : {M : Type 1} → statement M
 lettered_spec =

@@ -5,15 +5,13 @@ use Rattle.answer.proofs.Ways.{orders_as}
 use Rattle.answer.proofs.order_answer.Statement.{statement}
 use Rattle.answer.proofs.order_answer.Tie as tie
 
-returns : tie.Need-returns
+returns : tie.Need-returns-in-Known
 returns c =
-    let f = c.before.before.before in
-    orders_as f.before.before.args.name _ f.before.order-named.ensures _ f.order-at.ensures _ c.before.found.given.1 _ refl
+    orders_as c.args.name _ c.order_named.ensures _ c.order_at-found.ensures _ c.in-Known.is _ refl
 
-returns_2 : tie.Need-returns-2
+returns_2 : tie.Need-returns-in-Nobody
 returns_2 c =
-    let f = c.before.before.before in
-    orders_as f.before.before.args.name _ f.before.order-named.ensures _ f.order-at.ensures _ c.before.enum_told.given.1 _ c.error-answer.ensures
+    orders_as c.args.name _ c.order_named.ensures _ c.order_at-found.ensures _ c.in-Nobody.is _ c.error_answer.ensures
 
 pub order_answer_spec : {M : Type 1} → statement M
 order_answer_spec =

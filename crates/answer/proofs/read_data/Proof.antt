@@ -7,7 +7,6 @@ use native.Mathlib.Omega.{arith}
 use lib.ListN.{length, take, drop}
 use lib.Seq.{length-take-le}
 use borrow.Author.Rules.{rules}
-use borrow.Author.Tests.{not-true, not-false}
 use Rattle.sheet.specs.declared.Head.{Head}
 use Rattle.sheet.specs.Rows.{head_of, total}
 use Rattle.frame.specs.Frame.{data_in, intact}
@@ -43,37 +42,29 @@ module _ (b : Block) (h : Head) (has : h ≡ head_of (set_of b) (get_of b)) wher
         (λ i. answer_of (total_is i) (Data ((is ∙ ap (fields_in b) (front_data s n (head_long b h has) l) ∙ ap (λ (k : ℕ). fields_in b (data_in (take k s))) total_is) i)))
         ∙ sym (data_taken s b (rw total_is at l) (rw total_is at e))
 
-returns : tie.Need-returns
+returns : tie.Need-returns-then-bytes-total
 returns c =
-    let h = c.before in
-    let a = h.before.before.args in
-    cut a.block h.head_of.result h.head_of.ensures a.bytes.now c.if1.true
+    let a = c.args in
+    cut a.block c.head_of-head.result c.head_of-head.ensures a.bytes.now c.if-bytes-total.true
 
-returns_2 : tie.Need-returns-2
+returns_2 : tie.Need-returns-then-not-is_intact
 returns_2 c =
-    let i = c.before in
-    let t = i.before.before in
-    let h = t.before in
-    let a = h.before.before.args in
-    damaged a.block h.head_of.result h.head_of.ensures a.bytes.now t.if1.false (sym i.is-intact.ensures ∙ not-true _ c.if2.true)
+    let a = c.args in
+    damaged a.block c.head_of-head.result c.head_of-head.ensures a.bytes.now c.if-bytes-total.false (sym c.is_intact.ensures ∙ c.if-not-is_intact.true)
 
-sub_end : tie.Need-overflow-sub-end
-sub_end c = let h = c.before.before.before.before in omega (arith, head_long h.before.before.args.block h.head_of.result h.head_of.ensures)
+sub_end : tie.Need-overflow_sub-end
+sub_end c = omega (arith, head_long c.args.block c.head_of-head.result c.head_of-head.ensures)
 
-sub_decode : tie.Need-overflow-sub-decode
-sub_decode c = let h = c.before.before.before.before in omega (arith, head_long h.before.before.args.block h.head_of.result h.head_of.ensures)
+sub_decode : tie.Need-slice_bounds-decode-count
+sub_decode c = omega (arith, head_long c.args.block c.head_of-head.result c.head_of-head.ensures)
 
-part_decode_start : tie.Need-slice-bounds-decode-start
-part_decode_start c = let h = c.before.before.before.before in omega (arith, head_long h.before.before.args.block h.head_of.result h.head_of.ensures, c.before.before.before.if1.false)
+part_decode_start : tie.Need-slice_bounds-decode-start
+part_decode_start c = omega (arith, head_long c.args.block c.head_of-head.result c.head_of-head.ensures, c.if-bytes-total.false)
 
-returns_3 : tie.Need-returns-3
+returns_3 : tie.Need-returns
 returns_3 c =
-    let e = c.before.before in
-    let i = e.before in
-    let t = i.before.before in
-    let h = t.before in
-    let a = h.before.before.args in
-    taken a.block h.head_of.result h.head_of.ensures a.bytes.now t.if1.false (sym i.is-intact.ensures ∙ not-false _ e.if2.false) c.decode.result c.decode.ensures
+    let a = c.args in
+    taken a.block c.head_of-head.result c.head_of-head.ensures a.bytes.now c.if-bytes-total.false (sym c.is_intact.ensures ∙ c.if-not-is_intact.false) c.decode.result c.decode.ensures
 
 pub read_data_spec : {M : Type 1} → statement M
 read_data_spec =
@@ -81,7 +72,7 @@ read_data_spec =
     (tie.spec
     (λ c κs. search rules)
     returns
-    (λ c. sym (length-take-le _ _ c.before.if1.false))
+    (λ c. sym (length-take-le _ _ c.if-bytes-total.false))
     (λ c κs. search rules)
     returns_2
     sub_end

@@ -10,7 +10,7 @@ use Rattle.state.proofs.fresh.Tie as tie
 returns : tie.Need-returns
 returns c =
     let settings = c.before.before.fresh.ensures in
-    let position = c.before.fresh2.ensures in
+    let position = c.before.fresh-2.ensures in
     c.idle.ensures
     ∙ (λ i. board_of (state_at (record { settings = settings i; notes = record { flags = 0; block = 0; field = 0 }; position = position i }) [] 0))
 

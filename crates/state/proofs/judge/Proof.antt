@@ -13,8 +13,8 @@ returns : tie.Need-returns
 returns c =
     let s = c.before.before.before.before.before.before.before.before in
     let b = s.args.board in
-    let full : length b.held ≡ longest_frame = search (rules, s.well-formed.0.1.1.1.0.1.0) in
-    c.judge-parts.ensures ∙ ap (verdict_at b.memory.settings.bytes b.held) c.before.rest_of.ensures ∙ verdict_full b.memory.settings.bytes b.held (rest_of b) full
+    let full : length b.held ≡ longest_frame = search (rules, s.well_formed.0.1.1.1.0.1.0) in
+    c.judge_parts.ensures ∙ ap (verdict_at b.memory.settings.bytes b.held) c.before.rest_of.ensures ∙ verdict_full b.memory.settings.bytes b.held (rest_of b) full
 
 pub judge_spec : {M : Type 1} → statement M
 judge_spec = tie.close (tie.spec (λ c. search rules) (λ c κs. search rules) (λ c κs. search rules) returns)

@@ -27,48 +27,48 @@ wrong {n} {bad} e h = ne_eqb bad 0 (λ z. h (e ∙ z))
 abbrev board : tie.Start → Board
 board s = board_at s.args.table.now s.args.held.now s.args.rest
 
-abbrev start : tie.After-wanted → tie.Start
+abbrev start : tie.After-wanted-wants → tie.Start
 start k = k.before.before.before
 
 -- what is said of the board is said of its parts: the bytes held are as many as a board's
-said : (k : tie.After-wanted) (v : Verdict) → verdict_of (board (start k)) ≡ v → v ≡ verdict_at (start k).args.table.now (start k).args.held.now (start k).args.rest
-said k v e = let a = (start k).args in sym (verdict_full a.table.now a.held.now a.rest k.before.if1.true ∙ e)
+said : (k : tie.After-wanted-wants) (v : Verdict) → verdict_of (board (start k)) ≡ v → v ≡ verdict_at (start k).args.table.now (start k).args.held.now (start k).args.rest
+said k v e = let a = (start k).args in sym (verdict_full a.table.now a.held.now a.rest k.before.if-held-eq-FRAME.true ∙ e)
 
-sound : tie.Need-returns
+sound : tie.Need-returns-then-is_sound
 sound c =
     let place = c.before.before.before in
     let flags = place.before.before.before in
     let begun = flags.before.before in
-    let is = begun.before.wanted.ensures in
+    let is = begun.before.wanted-wants.ensures in
     ap passed is
-    ∙ said begun.before _ (judged_sound (board (start begun.before)) (λ z. begun.if2.true (is ∙ z)) flags.if3.true
-    (good place.before.first-bad.ensures place.if4.true) (sym c.before.is-sound.ensures ∙ c.if5.true))
+    ∙ said begun.before _ (judged_sound (board (start begun.before)) (λ z. begun.if-wants-ne0.true (is ∙ z)) flags.if-rest-le7.true
+    (good place.before.first_bad.ensures place.if-first_bad-eq0.true) (sym c.before.is_sound.ensures ∙ c.if-is_sound.true))
 
-settings : tie.Need-returns-2
+settings : tie.Need-returns-else-is_sound
 settings c =
     let place = c.before.before.before in
     let flags = place.before.before.before in
     let begun = flags.before.before in
-    said begun.before _ (judged_settings (board (start begun.before)) (λ z. begun.if2.true (begun.before.wanted.ensures ∙ z)) flags.if3.true
-    (good place.before.first-bad.ensures place.if4.true) (sym c.before.is-sound.ensures ∙ c.if5.false))
+    said begun.before _ (judged_settings (board (start begun.before)) (λ z. begun.if-wants-ne0.true (begun.before.wanted-wants.ensures ∙ z)) flags.if-rest-le7.true
+    (good place.before.first_bad.ensures place.if-first_bad-eq0.true) (sym c.before.is_sound.ensures ∙ c.if-is_sound.false))
 
-position : tie.Need-returns-3
+position : tie.Need-returns-else-first_bad-eq0
 position c =
     let flags = c.before.before.before in
     let begun = flags.before.before in
-    said begun.before _ (judged_position (board (start begun.before)) (λ z. begun.if2.true (begun.before.wanted.ensures ∙ z)) flags.if3.true
-    (wrong c.before.first-bad.ensures c.if4.false))
+    said begun.before _ (judged_position (board (start begun.before)) (λ z. begun.if-wants-ne0.true (begun.before.wanted-wants.ensures ∙ z)) flags.if-rest-le7.true
+    (wrong c.before.first_bad.ensures c.if-first_bad-eq0.false))
 
-flags : tie.Need-returns-4
+flags : tie.Need-returns-else-rest-le7
 flags c =
     let begun = c.before.before in
-    said begun.before _ (judged_flags (board (start begun.before)) (λ z. begun.if2.true (begun.before.wanted.ensures ∙ z)) c.if3.false)
+    said begun.before _ (judged_flags (board (start begun.before)) (λ z. begun.if-wants-ne0.true (begun.before.wanted-wants.ensures ∙ z)) c.if-rest-le7.false)
 
-unbegun : tie.Need-returns-5
-unbegun c = said c.before _ (judged_unbegun (board (start c.before)) (sym c.before.wanted.ensures ∙ c.if2.false))
+unbegun : tie.Need-returns-else-wants-ne0
+unbegun c = said c.before _ (judged_unbegun (board (start c.before)) (sym c.before.wanted-wants.ensures ∙ c.if-wants-ne0.false))
 
-other : tie.Need-returns-6
-other c = let a = c.before.before.args in sym (verdict_other a.table.now a.held.now a.rest c.if1.false)
+other : tie.Need-returns-else-held-eq-FRAME
+other c = let a = c.before.before.args in sym (verdict_other a.table.now a.held.now a.rest c.if-held-eq-FRAME.false)
 
 pub judge_parts_spec : {M : Type 1} → statement M
 judge_parts_spec = tie.close (tie.spec (λ c κs. search rules) (λ c κs. search rules) (λ c κs. search rules) sound settings position flags unbegun other)

@@ -7,36 +7,36 @@ use Rattle.trace.specs.Record.{longest_record, reading}
 use Rattle.trace.proofs.read_record.Statement.{statement}
 use Rattle.trace.proofs.read_record.Tie as tie
 
-returns : tie.Need-returns
+returns : tie.Need-returns-then-is_wrong
 unfolding reading
-returns c = rw (sym c.before.is_wrong.ensures ∙ c.if1.true)
+returns c = rw (sym c.before.is_wrong.ensures ∙ c.if-is_wrong.true)
 
-returns_2 : tie.Need-returns-2
+returns_2 : tie.Need-returns-then-is_wrong-2
 unfolding reading
-returns_2 c = let d = c.before.before in rw (sym d.before.is_wrong.ensures ∙ d.if1.false, sym c.before.is-wrong2.ensures ∙ c.if2.true)
+returns_2 c = let d = c.before.before in rw (sym d.before.is_wrong.ensures ∙ d.if-is_wrong.false, sym c.before.is_wrong-2.ensures ∙ c.if-is_wrong-2.true)
 
-returns_3 : tie.Need-returns-3
+returns_3 : tie.Need-returns-then-count-gt-LONGEST
 unfolding reading
 returns_3 c =
     let d = c.before.before in
     let e = d.before.before in
-    rw (sym e.before.is_wrong.ensures ∙ e.if1.false, sym d.before.is-wrong2.ensures ∙ d.if2.false, ← c.before.u8-at.ensures, lt-ltb longest_record c.before.u8-at.result c.if3.true)
+    rw (sym e.before.is_wrong.ensures ∙ e.if-is_wrong.false, sym d.before.is_wrong-2.ensures ∙ d.if-is_wrong-2.false, ← c.before.u8_at-count.ensures, lt-ltb longest_record c.before.u8_at-count.result c.if-count-gt-LONGEST.true)
 
-returns_4 : tie.Need-returns-4
+returns_4 : tie.Need-returns-then-part-count
 unfolding reading
 returns_4 c =
-    let n = c.before.before.u8-at in
+    let n = c.before.before.u8_at-count in
     let d = c.before.before.before in
     let e = d.before.before in
-    rw (sym e.before.is_wrong.ensures ∙ e.if1.false, sym d.before.is-wrong2.ensures ∙ d.if2.false, ← n.ensures, le-ltb longest_record n.result c.before.if3.false, lt-ltb _ (7 + n.result) c.if4.true)
+    rw (sym e.before.is_wrong.ensures ∙ e.if-is_wrong.false, sym d.before.is_wrong-2.ensures ∙ d.if-is_wrong-2.false, ← n.ensures, le-ltb longest_record n.result c.before.if-count-gt-LONGEST.false, lt-ltb _ (7 + n.result) c.if-part-count.true)
 
-returns_5 : tie.Need-returns-5
+returns_5 : tie.Need-returns
 unfolding reading
 returns_5 c =
-    let n = c.before.before.before.u8-at in
+    let n = c.before.before.before.u8_at-count in
     let d = c.before.before.before.before in
     let e = d.before.before in
-    rw (sym e.before.is_wrong.ensures ∙ e.if1.false, sym d.before.is-wrong2.ensures ∙ d.if2.false, ← n.ensures, ← c.u32-at.ensures, le-ltb longest_record n.result c.before.before.if3.false, le-ltb _ (7 + n.result) c.before.if4.false)
+    rw (sym e.before.is_wrong.ensures ∙ e.if-is_wrong.false, sym d.before.is_wrong-2.ensures ∙ d.if-is_wrong-2.false, ← n.ensures, ← c.u32_at.ensures, le-ltb longest_record n.result c.before.before.if-count-gt-LONGEST.false, le-ltb _ (7 + n.result) c.before.if-part-count.false)
 
 pub read_record_spec : {M : Type 1} → statement M
 read_record_spec =
