@@ -14,14 +14,14 @@ heard b = record { number = 0; board = b }
 number_of : {v w : Verdict} → v ≡ w → v.number ≡ w.number
 number_of e = ap (λ (v : Verdict). v.number) e
 
-refused : tie.Need-returns
+refused : tie.Need-returns-then-number-ne0
 refused c =
     let a = c.before.before.args in
-    let is = number_of c.before.judge.ensures in
-    let other : c.before.judge.result.number ≡ 0 → ⊥ = c.if1.true in
+    let is = number_of c.before.judge-verdict.ensures in
+    let other : c.before.judge-verdict.result.number ≡ 0 → ⊥ = c.if-number-ne0.true in
     ap (λ n. record { number = n; board = a.board }) is ∙ sym (report_refused a.board a.now (λ z. other (is ∙ z)))
 
-drops : tie.Need-returns-2
+drops : tie.Need-returns-then-is_late
 drops c =
     let late = c.before.before.before in
     let some = late.before in
@@ -29,23 +29,23 @@ drops c =
     let s = sound.before.before in
     let b = s.args.board in
     let now = s.args.now in
-    let f : length b.held ≡ longest_frame = search (rules, s.well-formed.0.1.1.1.0.1.0) in
-    ap heard (c.idle.ensures ∙ sym (overdue_drops b now some.if2.true f (sym late.is-late.ensures ∙ c.before.before.if3.true)))
-    ∙ sym (report_heard b now (sym (number_of sound.before.judge.ensures) ∙ sound.if1.false))
+    let f : length b.held ≡ longest_frame = search (rules, s.well_formed.0.1.1.1.0.1.0) in
+    ap heard (c.idle-next.ensures ∙ sym (overdue_drops b now some.if-board-gt0.true f (sym late.is_late.ensures ∙ c.before.before.if-is_late.true)))
+    ∙ sym (report_heard b now (sym (number_of sound.before.judge-verdict.ensures) ∙ sound.if-number-ne0.false))
 
-in_time_lem : tie.Need-returns-3
+in_time_lem : tie.Need-returns-else-is_late
 in_time_lem c =
     let late = c.before in
     let sound = late.before.before.before in
     let a = sound.before.before.args in
-    ap heard (sym (early_stays a.board a.now (sym late.is-late.ensures ∙ c.if3.false)))
-    ∙ sym (report_heard a.board a.now (sym (number_of sound.before.judge.ensures) ∙ sound.if1.false))
+    ap heard (sym (early_stays a.board a.now (sym late.is_late.ensures ∙ c.if-is_late.false)))
+    ∙ sym (report_heard a.board a.now (sym (number_of sound.before.judge-verdict.ensures) ∙ sound.if-number-ne0.false))
 
-idle : tie.Need-returns-4
+idle : tie.Need-returns-else-board-gt0
 idle c =
     let sound = c.before.before in
     let a = sound.before.before.args in
-    ap heard (sym (idle_stays a.board a.now c.if2.false)) ∙ sym (report_heard a.board a.now (sym (number_of sound.before.judge.ensures) ∙ sound.if1.false))
+    ap heard (sym (idle_stays a.board a.now c.if-board-gt0.false)) ∙ sym (report_heard a.board a.now (sym (number_of sound.before.judge-verdict.ensures) ∙ sound.if-number-ne0.false))
 
 pub report_time_spec : {M : Type 1} → statement M
 report_time_spec = tie.close (tie.spec (λ c κs. search rules) refused (λ c κs. search rules) (λ c κs. search rules) drops in_time_lem idle)

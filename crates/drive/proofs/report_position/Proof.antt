@@ -11,30 +11,30 @@ use Rattle.drive.proofs.report_position.Tie as tie
 number_of : {v w : Verdict} → v ≡ w → v.number ≡ w.number
 number_of e = ap (λ (v : Verdict). v.number) e
 
-refused : tie.Need-returns
+refused : tie.Need-returns-then-number-ne0
 refused c =
     let a = c.before.before.args in
-    let is = number_of c.before.judge.ensures in
-    let other : c.before.judge.result.number ≡ 0 → ⊥ = c.if1.true in
+    let is = number_of c.before.judge-verdict.ensures in
+    let other : c.before.judge-verdict.result.number ≡ 0 → ⊥ = c.if-number-ne0.true in
     ap (λ n. record { number = n; board = a.board }) is ∙ sym (report_refused a.board a.position (λ z. other (is ∙ z)))
 
-outside : tie.Need-returns-2
+outside : tie.Need-returns-then-first_bad-ne0
 outside c =
     let bad = c.before in
     let sound = bad.before in
     let a = sound.before.before.args in
-    sym (report_outside a.board a.position (sym (number_of sound.before.judge.ensures) ∙ sound.if1.false)
-    (ne_eqb _ 0 (λ z. c.if2.true (bad.first-bad.ensures ∙ z))))
+    sym (report_outside a.board a.position (sym (number_of sound.before.judge-verdict.ensures) ∙ sound.if-number-ne0.false)
+    (ne_eqb _ 0 (λ z. c.if-first_bad-ne0.true (bad.first_bad.ensures ∙ z))))
 
-placed : tie.Need-returns-3
+placed : tie.Need-returns
 placed c =
     let test = c.before in
     let bad = test.before in
     let sound = bad.before in
     let a = sound.before.before.args in
-    ap (λ (b : Board). record { number = 0; board = b }) c.placed.ensures
-    ∙ sym (report_placed a.board a.position (sym (number_of sound.before.judge.ensures) ∙ sound.if1.false)
-    (eq-eqb _ 0 (sym bad.first-bad.ensures ∙ test.if2.false)))
+    ap (λ (b : Board). record { number = 0; board = b }) c.placed-next.ensures
+    ∙ sym (report_placed a.board a.position (sym (number_of sound.before.judge-verdict.ensures) ∙ sound.if-number-ne0.false)
+    (eq-eqb _ 0 (sym bad.first_bad.ensures ∙ test.if-first_bad-ne0.false)))
 
 pub report_position_spec : {M : Type 1} → statement M
 report_position_spec = tie.close (tie.spec (λ c κs. search rules) refused (λ c κs. search rules) outside (λ c κs. search rules) placed)

@@ -9,21 +9,21 @@ use Rattle.flash.proofs.hand_out.Tie as tie
 number_of : {v w : Verdict} → v ≡ w → v.number ≡ w.number
 number_of e = ap (λ (v : Verdict). v.number) e
 
-short : tie.Need-returns
-short c = let a = c.before.before.args in out_short a.board a.out.now c.if1.true
+short : tie.Need-returns-then-out-lt-SIZE
+short c = let a = c.before.before.args in out_short a.board a.out.now c.if-out-lt-SIZE.true
 
-refused : tie.Need-returns-2
+refused : tie.Need-returns-then-number-ne0
 refused c =
     let room = c.before.before in
     let a = room.before.before.args in
-    out_refused a.board a.out.now room.if1.false _ (number_of c.before.judge.ensures) c.if2.true
+    out_refused a.board a.out.now room.if-out-lt-SIZE.false _ (number_of c.before.judge-verdict.ensures) c.if-number-ne0.true
 
-handed : tie.Need-returns-3
+handed : tie.Need-returns
 handed c =
     let sound = c.before.before.before.before.before.before.before.before in
     let room = sound.before.before in
     let a = room.before.before.args in
-    let is = out_handed a.board a.out.now room.if1.false (sym (number_of sound.before.judge.ensures) ∙ sound.if2.false) in
+    let is = out_handed a.board a.out.now room.if-out-lt-SIZE.false (sym (number_of sound.before.judge-verdict.ensures) ∙ sound.if-number-ne0.false) in
     (is.0, c.before.before.copy.ensures ∙ is.1)
 
 pub hand_out_spec : {M : Type 1} → statement M

@@ -17,34 +17,34 @@ use Rattle.flash.proofs.take_back.Tie as tie
 abbrev answered : ℕ → Board → Report
 answered n b = record { number = n; board = b }
 
-other : tie.Need-returns
-other c = ap (answered 1) c.before.fresh.ensures ∙ sym (back_length c.before.before.before.args.bytes.now c.if1.true)
+other : tie.Need-returns-then-bytes-ne-SIZE
+other c = ap (answered 1) c.before.fresh-fresh.ensures ∙ sym (back_length c.before.before.before.args.bytes.now c.if-bytes-ne-SIZE.true)
 
 -- the board that was judged is the fresh one with these settings
-module _ (k : tie.After-judge) where
-  abbrev test : tie.Else1
+module _ (k : tie.After-judge-verdict) where
+  abbrev test : tie.Else-bytes-ne-SIZE
   test = k.before.before.before.before.before
 
   abbrev stored : List ℕ
   stored = test.before.before.before.args.bytes.now
 
-  judged : k.before.with-settings.result ≡ with_settings (board_of fresh_state) (record { bytes = stored })
+  judged : k.before.with_settings-board.result ≡ with_settings (board_of fresh_state) (record { bytes = stored })
   judged =
-      k.before.with-settings.ensures
-      ∙ (λ i. with_settings (test.before.fresh.ensures i) (record { bytes = (k.before.before.before.copy.ensures ∙ copied stored test.if1.left) i }))
+      k.before.with_settings-board.ensures
+      ∙ (λ i. with_settings (test.before.fresh-fresh.ensures i) (record { bytes = (k.before.before.before.copy.ensures ∙ copied stored test.if-bytes-ne-SIZE.false) i }))
 
-  number_is : k.judge.result.number ≡ refusal_of (with_settings (board_of fresh_state) (record { bytes = stored }))
-  number_is = ap (λ (v : Verdict). v.number) k.judge.ensures ∙ ap refusal_of judged
+  number_is : k.judge-verdict.result.number ≡ refusal_of (with_settings (board_of fresh_state) (record { bytes = stored }))
+  number_is = ap (λ (v : Verdict). v.number) k.judge-verdict.ensures ∙ ap refusal_of judged
 
-unsound : tie.Need-returns-2
+unsound : tie.Need-returns-then-refusal-ne0
 unsound c =
     let k = c.before in
-    ap (answered k.judge.result.number) (test k).before.fresh.ensures ∙ back_refused (stored k) (test k).if1.false _ (number_is k) c.if2.true
+    ap (answered k.judge-verdict.result.number) (test k).before.fresh-fresh.ensures ∙ back_refused (stored k) (test k).if-bytes-ne-SIZE.false _ (number_is k) c.if-refusal-ne0.true
 
-taken : tie.Need-returns-3
+taken : tie.Need-returns
 taken c =
     let k = c.before in
-    ap (answered 0) (judged k) ∙ back_passed (stored k) (test k).if1.false (sym (number_is k) ∙ c.if2.false)
+    ap (answered 0) (judged k) ∙ back_passed (stored k) (test k).if-bytes-ne-SIZE.false (sym (number_is k) ∙ c.if-refusal-ne0.false)
 
 pub take_back_spec : {M : Type 1} → statement M
 take_back_spec =

@@ -14,7 +14,7 @@ returns c =
     let y = bytes.before in
     let x = y.before.before in
     let a = x.before.before.before.before.before.before.args in
-    let unfinished = bytes.bytes.ensures ∙ (λ i. same_bytes (x.part.ensures i) (y.part2.ensures i)) in
+    let unfinished = bytes.bytes-unfinished.ensures ∙ (λ i. same_bytes (x.part.ensures i) (y.part-2.ensures i)) in
     λ i. eqb a.a.stamp a.b.stamp && (c.before.notes.ensures i && (c.position.ensures i && (unfinished i && settings.settings.ensures i)))
 
 pub boards_spec : {M : Type 1} → statement M

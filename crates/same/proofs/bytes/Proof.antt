@@ -8,34 +8,34 @@ use Rattle.same.proofs.Alike.{differ_length, differ_here, same_later, same_end}
 use Rattle.same.proofs.bytes.Statement.{statement}
 use Rattle.same.proofs.bytes.Tie as tie
 
-abbrev invariant_loop : tie.invariant-loop
+abbrev invariant_loop : tie.invariant-loop-i
 invariant_loop a b i₀ i = (i ≤ length a) × (same_bytes (drop i a) (drop i b) ≡ same_bytes a b)
 
-abbrev decreases_loop : tie.decreases-loop
+abbrev decreases_loop : tie.decreases-loop-i
 decreases_loop a b i₀ i = length a - i
 
-returns : tie.Need-returns invariant_loop decreases_loop
-returns c = sym (differ_length _ _ c.if1.true)
+returns : tie.Need-returns-then-a-b invariant_loop decreases_loop
+returns c = sym (differ_length _ _ c.if-a-b.true)
 
-returns_2 : tie.Need-returns-2 invariant_loop decreases_loop
+returns_2 : tie.Need-returns-then-a-i invariant_loop decreases_loop
 returns_2 c =
     let t = c.before.before.before in
     let l = t.before in
     let a = l.before.before.args in
-    sym (differ_here a.a.now a.b.now l.loop.i t.loop-test.true (omega arith) c.if2.true) ∙ l.loop.invariant.1
+    sym (differ_here a.a.now a.b.now l.loop-i.i t.loop-i-test.true (omega arith) c.if-a-i.true) ∙ l.loop-i.invariant.1
 
-loop_again : tie.Need-loop-preserved invariant_loop decreases_loop
+loop_again : tie.Need-loop-i-preserved invariant_loop decreases_loop
 loop_again c =
     let t = c.before.before.before in
     let l = t.before in
     let a = l.before.before.args in
-    (omega arith, sym (same_later a.a.now a.b.now l.loop.i t.loop-test.true (omega arith) c.if2.false) ∙ l.loop.invariant.1)
+    (omega arith, sym (same_later a.a.now a.b.now l.loop-i.i t.loop-i-test.true (omega arith) c.if-a-i.false) ∙ l.loop-i.invariant.1)
 
-returns_3 : tie.Need-returns-3 invariant_loop decreases_loop
+returns_3 : tie.Need-returns invariant_loop decreases_loop
 returns_3 c =
     let l = c.before in
     let a = l.before.before.args in
-    sym (same_end a.a.now a.b.now l.loop.i c.loop-test.false (omega arith)) ∙ l.loop.invariant.1
+    sym (same_end a.a.now a.b.now l.loop-i.i c.loop-i-test.false (omega arith)) ∙ l.loop-i.invariant.1
 
 pub bytes_spec : {M : Type 1} → statement M
 bytes_spec =

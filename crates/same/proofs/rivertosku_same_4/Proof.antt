@@ -31,16 +31,16 @@ rivertosku_same_4_spec =
     tie.close
     (tie.spec
     (λ c κs. search rules)
-    (λ c. refused _ (number c.before.before.judge.ensures) c.if1.true)
+    (λ c. refused _ (number c.before.before.judge-one.ensures) c.if-one-ne0.true)
     (λ c κs. search rules)
     (λ c. let one = c.before.before.before in
-    heard (number one.before.before.judge.ensures) one.if1.false (refused _ (number c.before.before.judge2.ensures) c.if2.true))
+    heard (number one.before.before.judge-one.ensures) one.if-one-ne0.false (refused _ (number c.before.before.judge-two.ensures) c.if-two-ne0.true))
     (λ c κs. search rules)
     (λ c. let two = c.before.before in
     let one = two.before.before.before in
-    heard (number one.before.before.judge.ensures) one.if1.false
-    (heard (number two.before.before.judge2.ensures) two.if2.false (same (sym c.before.boards.ensures ∙ c.if3.true))))
+    heard (number one.before.before.judge-one.ensures) one.if-one-ne0.false
+    (heard (number two.before.before.judge-two.ensures) two.if-two-ne0.false (same (sym c.before.boards.ensures ∙ c.if-boards.true))))
     (λ c. let two = c.before.before in
     let one = two.before.before.before in
-    heard (number one.before.before.judge.ensures) one.if1.false
-    (heard (number two.before.before.judge2.ensures) two.if2.false (other (sym c.before.boards.ensures ∙ c.if3.false)))))
+    heard (number one.before.before.judge-one.ensures) one.if-one-ne0.false
+    (heard (number two.before.before.judge-two.ensures) two.if-two-ne0.false (other (sym c.before.boards.ensures ∙ c.if-boards.false)))))

@@ -10,10 +10,10 @@ use Rattle.unit.proofs.Gets.{position_room, says_found}
 use Rattle.travel.proofs.places.answer_gpos.Statement.{statement}
 use Rattle.travel.proofs.places.answer_gpos.Tie as tie
 
-slice_aggregate_put : tie.Need-slice-aggregate-put
+slice_aggregate_put : tie.Need-slice_bounds-put-end
 slice_aggregate_put c =
     let laid = c.before.before.before in
-    sym (length-take-le {A = ℕ} 20 laid.encode.new.1.0 (position_room (memory_at [] laid.before.before.before.before.args.slate) _ _ refl laid.encode.ensures))
+    sym (length-take-le {A = ℕ} 20 laid.encode.new.out (position_room (memory_at [] laid.before.before.before.before.args.slate) _ _ refl laid.encode.ensures))
 
 returns : tie.Need-returns
 returns c table =

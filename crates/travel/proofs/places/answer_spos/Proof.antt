@@ -20,32 +20,32 @@ use Rattle.unit.proofs.Sets.{answered_as, section_is, says_damaged, says_refused
 use Rattle.travel.proofs.places.answer_spos.Statement.{statement}
 use Rattle.travel.proofs.places.answer_spos.Tie as tie
 
-returns : tie.Need-returns
+returns : tie.Need-returns-then-not-is_intact
 unfolding places
 returns c table =
     let said = c.before.before in
     let test = said.before.before in
     let a = test.before.before.before.before.args in
-    says_damaged (memory_at table a.slate) a.unit.now 10 _ _ (sym test.before.is-intact.ensures ∙ not-true _ test.if1.true) (said.refuse-crc.ensures table)
+    says_damaged (memory_at table a.slate) a.unit.now 10 _ _ (sym test.before.is_intact.ensures ∙ test.if-not-is_intact.true) (said.refuse_crc.ensures table)
 
 -- past the first test the unit is intact, so it has a name and a CRC
-long : (c : tie.Else1) → 6 ≤ length c.before.before.before.before.args.unit.now
-long c = intact_long c.before.before.before.before.args.unit.now (sym c.before.is-intact.ensures ∙ not-false _ c.if1.false)
+long : (c : tie.Else-not-is_intact) → 6 ≤ length c.before.before.before.before.args.unit.now
+long c = intact_long c.before.before.before.before.args.unit.now (sym c.before.is_intact.ensures ∙ c.if-not-is_intact.false)
 
-sub_end : tie.Need-overflow-sub-end
+sub_end : tie.Need-overflow_sub-end
 sub_end c = omega (arith, long c)
 
-sub_decode : tie.Need-overflow-sub-decode
+sub_decode : tie.Need-slice_bounds-decode-count
 sub_decode c = omega (arith, long c)
 
-part_decode_start : tie.Need-slice-bounds-decode-start
+part_decode_start : tie.Need-slice_bounds-decode-start
 part_decode_start c = omega (arith, long c)
 
 -- what is decoded is the unit's data section
-decoded : (c : tie.After-decode) → c.decode.result ≡ spos_of (numbers_in spos_row (data_in c.before.before.before.before.before.before.args.unit.now))
-decoded c = c.decode.ensures ∙ ap (λ (d : List ℕ). spos_of (numbers_in spos_row d)) (section_is c.before.before.before.before.before.before.args.unit.now)
+decoded : (c : tie.After-decode-spos) → c.decode-spos.result ≡ spos_of (numbers_in spos_row (data_in c.before.before.before.before.before.before.args.unit.now))
+decoded c = c.decode-spos.ensures ∙ ap (λ (d : List ℕ). spos_of (numbers_in spos_row d)) (section_is c.before.before.before.before.before.before.args.unit.now)
 
-returns_2 : tie.Need-returns-2
+returns_2 : tie.Need-returns-then-bad-ne0
 unfolding places
 returns_2 c table =
     let said = c.before.before in
@@ -53,11 +53,11 @@ returns_2 c table =
     let carried = bad.before in
     let test = carried.before.before in
     let a = test.before.before.before.before.args in
-    says_refused (memory_at table a.slate) a.unit.now 10 _ _ bad.first-bad.result
-    (bad.first-bad.ensures ∙ ap (λ (s : Spos). first_bad spos_row (spos_numbers s)) (decoded carried))
-    (sym test.before.is-intact.ensures ∙ not-false _ test.if1.false) said.before.before.if2.true (said.refuse-field.ensures table)
+    says_refused (memory_at table a.slate) a.unit.now 10 _ _ bad.first_bad-bad.result
+    (bad.first_bad-bad.ensures ∙ ap (λ (s : Spos). first_bad spos_row (spos_numbers s)) (decoded carried))
+    (sym test.before.is_intact.ensures ∙ test.if-not-is_intact.false) said.before.before.if-bad-ne0.true (said.refuse_field.ensures table)
 
-returns_3 : tie.Need-returns-3
+returns_3 : tie.Need-returns
 unfolding places
 returns_3 c table =
     let put = c.before in
@@ -68,9 +68,9 @@ returns_3 c table =
     let test = carried.before.before in
     let a = test.before.before.before.before.args in
     answered_as (ap (outcome_at table) c.quiet.ensures)
-    (says_done (memory_at table a.slate) a.unit.now 10 _ _ bad.first-bad.result
-    (bad.first-bad.ensures ∙ ap (λ (s : Spos). first_bad spos_row (spos_numbers s)) (decoded carried))
-    (sym test.before.is-intact.ensures ∙ not-false _ test.if1.false) said.before.before.if2.false
+    (says_done (memory_at table a.slate) a.unit.now 10 _ _ bad.first_bad-bad.result
+    (bad.first_bad-bad.ensures ∙ ap (λ (s : Spos). first_bad spos_row (spos_numbers s)) (decoded carried))
+    (sym test.before.is_intact.ensures ∙ test.if-not-is_intact.false) said.before.before.if-bad-ne0.false
     (record {
       result =
           ap (λ (s : Slate). outcome_at table (record { order = Nothing; slate = s }))
