@@ -17,20 +17,20 @@ start g = g.before.before.before
 abbrev memory : tie.After-get → Memory
 memory g = memory_at (start g).args.table.now (start g).args.slate
 
-sub_n : tie.Need-overflow-sub-n
-sub_n c = omega (arith, c.get_total.ensures, get_total (start c.before.before).args.k)
+sub_n : tie.Need-overflow_sub-n
+sub_n c = omega (arith, c.get_total-n.ensures, get_total (start c.before.before).args.k)
 
-array_share_prefix_section : tie.Need-array-share-prefix-section
+array_share_prefix_section : tie.Need-slice_bounds-section-end
 array_share_prefix_section c =
     let t = c.before in
     let g = t.before.before in
-    section_room (memory g) (start g).args.k _ t.get_total.ensures _ _ refl g.get.ensures
+    section_room (memory g) (start g).args.k _ t.get_total-n.ensures _ _ refl g.get.ensures
 
-slice_aggregate_put : tie.Need-slice-aggregate-put
+slice_aggregate_put : tie.Need-slice_bounds-put-end
 slice_aggregate_put c =
     let t = c.before.before in
     let g = t.before.before in
-    sym (length-take-le _ _ (section_room (memory g) (start g).args.k _ t.get_total.ensures _ _ refl g.get.ensures))
+    sym (length-take-le _ _ (section_room (memory g) (start g).args.k _ t.get_total-n.ensures _ _ refl g.get.ensures))
 
 returns : tie.Need-returns
 returns r =
@@ -38,7 +38,7 @@ returns r =
     let t = put.before.before.before in
     let g = t.before.before in
     answered_as (ap (outcome_at (start g).args.table.now) r.quiet.ensures)
-    (says_got (memory g) (start g).args.k _ t.get_total.ensures _ _ refl g.get.ensures (start g).args.name _ _ put.put.ensures)
+    (says_got (memory g) (start g).args.k _ t.get_total-n.ensures _ _ refl g.get.ensures (start g).args.name _ _ put.put.ensures)
 
 pub answer_get_spec : {M : Type 1} → statement M
 answer_get_spec =

@@ -6,16 +6,13 @@ use Rattle.optimiser.proofs.Flats.{asks_nothing, asks_as}
 use Rattle.optimiser.proofs.rivertosku_write_order_1.Statement.{statement}
 use Rattle.optimiser.proofs.rivertosku_write_order_1.Tie as tie
 
-returns : tie.Need-returns
+returns : tie.Need-returns-in-Known
 returns c =
-    let w = c.before.before in
-    let f = w.before.before.before in
-    asks_as _ _ (ap order_asked (sym f.found.given.1 ∙ f.before.before.order-at.ensures)) w.write.ensures
+    asks_as _ _ (ap order_asked (sym c.in-Known.is ∙ c.order_at-found.ensures)) c.write.ensures
 
-returns_2 : tie.Need-returns-2
+returns_2 : tie.Need-returns-in-Nobody
 returns_2 c =
-    let t = c.before in
-    asks_as _ _ (ap order_asked (sym t.enum_told.given.1 ∙ t.before.before.order-at.ensures)) (asks_nothing _ _ c.nobody-asked.ensures)
+    asks_as _ _ (ap order_asked (sym c.in-Nobody.is ∙ c.order_at-found.ensures)) (asks_nothing _ _ c.nobody_asked.ensures)
 
 pub rivertosku_write_order_1_spec : {M : Type 1} → statement M
 rivertosku_write_order_1_spec =

@@ -9,21 +9,15 @@ use Rattle.optimiser.proofs.Flats.{asks_nothing, asks_as}
 use Rattle.optimiser.proofs.rivertosku_write_set_1.Statement.{statement}
 use Rattle.optimiser.proofs.rivertosku_write_set_1.Tie as tie
 
-returns : tie.Need-returns
+returns : tie.Need-returns-in-Known
 returns c =
-    let w = c.before.before in
-    let x = w.before.before in
-    let f = x.before.before in
-    let b = f.before.before in
     asks_as _ _
-    (ap (λ (y : Fields). Set y ∷ []) x.fields_at.ensures
-    ∙ ap (set_asked b.before.before.args.blocks) (sym f.found.given.1 ∙ b.block_at.ensures)) w.write.ensures
+    (ap (λ (y : Fields). Set y ∷ []) c.fields_at.ensures
+    ∙ ap (set_asked c.args.blocks) (sym c.in-Known.is ∙ c.block_at-found.ensures)) c.write.ensures
 
-returns_2 : tie.Need-returns-2
+returns_2 : tie.Need-returns-in-Nobody
 returns_2 c =
-    let t = c.before in
-    let b = t.before.before in
-    asks_as _ _ (ap (set_asked b.before.before.args.blocks) (sym t.enum_told.given.1 ∙ b.block_at.ensures)) (asks_nothing _ _ c.nobody-asked.ensures)
+    asks_as _ _ (ap (set_asked c.args.blocks) (sym c.in-Nobody.is ∙ c.block_at-found.ensures)) (asks_nothing _ _ c.nobody_asked.ensures)
 
 pub rivertosku_write_set_1_spec : {M : Type 1} → statement M
 rivertosku_write_set_1_spec =
