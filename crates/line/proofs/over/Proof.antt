@@ -18,7 +18,7 @@ returns c table =
     let a = s.args in
     let u = take (a.to - a.from) (drop a.from a.line.now) in
     let long : length u ≡ a.to - a.from = length-take-le (a.to - a.from) (drop a.from a.line.now) (omega (arith, length-drop a.from a.line.now, s.requires.0, s.requires.1)) in
-    let held = padded_laid a.held.now u _ _ (a.to - a.from) long copied.before.before.copy-arg.given.0.1 s.requires.2 copied.copy.ensures put.put.ensures in
+    let held = padded_laid a.held.now u _ _ (a.to - a.from) long copied.before.before.copy-arg-1.given.0.1 s.requires.2 copied.copy.ensures put.put.ensures in
     λ k.
     record {
       number = 0;
