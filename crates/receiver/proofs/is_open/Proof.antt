@@ -10,7 +10,7 @@ is_open_spec =
     tie.close
     (tie.spec
     (λ c. omega (arith, c.before.before.requires.2))
-    (λ c. rw (eq-eqb _ 0 c.before.before.if1.true, eq-eqb _ 0 c.if2.true))
-    (λ c. rw (eq-eqb _ 0 c.before.before.if1.true, ne_eqb _ 0 c.if2.false))
+    (λ c. rw (eq-eqb _ 0 c.before.before.if-had-eq0.true, eq-eqb _ 0 c.if-piece-eq0.true))
+    (λ c. rw (eq-eqb _ 0 c.before.before.if-had-eq0.true, ne_eqb _ 0 c.if-piece-eq0.false))
     (λ c. omega (arith, c.before.requires.0, c.before.requires.1))
-    (λ c. rw (ne_eqb _ 0 c.if1.false)))
+    (λ c. rw (ne_eqb _ 0 c.if-had-eq0.false)))

@@ -24,43 +24,43 @@ board s = board_at s.args.table.now s.args.held.now s.args.rest
 left : (s : tie.Start) {x y : Done} → x ≡ y → call_at s.args.table.now s.args.held.now x ≡ call_at s.args.table.now s.args.held.now y
 left s e = ap (call_at s.args.table.now s.args.held.now) e
 
-too_long : tie.Need-returns
-too_long c = rw (call_long protocol _ _ _ _ _ c.before.if1.true) (record { result = left c.before.before.before.before c.refuse.ensures; reply = refl })
+too_long : tie.Need-returns-then-piece-gt-PIECE
+too_long c = rw (call_long protocol _ _ _ _ _ c.before.if-piece-gt-PIECE.true) (record { result = left c.before.before.before.before c.refuse.ensures; reply = refl })
 
-too_narrow : tie.Need-returns-2
+too_narrow : tie.Need-returns-then-reply-lt-FRAME
 too_narrow c =
-    rw (call_room protocol _ _ _ _ _ c.before.before.if1.false c.before.if2.true) (record { result = left c.before.before.before.before.before c.refuse2.ensures; reply = refl })
+    rw (call_room protocol _ _ _ _ _ c.before.before.if-piece-gt-PIECE.false c.before.if-reply-lt-FRAME.true) (record { result = left c.before.before.before.before.before c.refuse-then-reply-lt-FRAME.ensures; reply = refl })
 
 -- ---- the verdict
 
-abbrev tests : tie.After-judge-parts → tie.Else2
-tests k = k.before.before.before.before
+abbrev tests : tie.After-judge_parts-verdict → tie.Else-reply-lt-FRAME
+tests k = k.before.before.before
 
-abbrev start : tie.After-judge-parts → tie.Start
+abbrev start : tie.After-judge_parts-verdict → tie.Start
 start k = (tests k).before.before.before.before
 
-module _ (k : tie.After-judge-parts) where
+module _ (k : tie.After-judge_parts-verdict) where
   full : length (start k).args.held.now ≡ longest_frame
-  full = k.before.judge-parts-arg3.given.0
+  full = (start k).told-held
 
-  verdict_is : k.judge-parts.result ≡ verdict_of (board (start k))
-  verdict_is = k.judge-parts.ensures ∙ verdict_full (start k).args.table.now (start k).args.held.now (start k).args.rest full
+  verdict_is : k.judge_parts-verdict.result ≡ verdict_of (board (start k))
+  verdict_is = k.judge_parts-verdict.ensures ∙ verdict_full (start k).args.table.now (start k).args.held.now (start k).args.rest full
 
-  number_is : k.judge-parts.result.number ≡ refusal_of (board (start k))
+  number_is : k.judge_parts-verdict.result.number ≡ refusal_of (board (start k))
   number_is = ap (λ (v : Verdict). v.number) verdict_is
 
-unsound : tie.Need-returns-3
+unsound : tie.Need-returns-then-verdict-ne0
 unsound c =
     let told = c.before.before.before in
-    rw (call_unsound protocol _ _ _ _ _ (tests told).before.if1.false (tests told).if2.false (λ z. c.before.if3.true (number_is told ∙ z)), ← number_is told)
-    (record { result = left (start told) c.refuse3.ensures; reply = refl })
+    rw (call_unsound protocol _ _ _ _ _ (tests told).before.if-piece-gt-PIECE.false (tests told).if-reply-lt-FRAME.false (λ z. c.before.if-verdict-ne0.true (number_is told ∙ z)), ← number_is told)
+    (record { result = left (start told) c.refuse-then-verdict-ne0.ensures; reply = refl })
 
-empty : tie.Need-returns-4
+empty : tie.Need-returns-then-piece-eq0
 empty c =
     let sound = c.before.before in
     let told = sound.before.before in
-    rw (call_empty protocol _ _ _ _ _ (tests told).if2.false (sym (number_is told) ∙ sound.if3.false) c.before.if4.true)
-    (record { result = left (start told) c.refuse4.ensures; reply = refl })
+    rw (call_empty protocol _ _ _ _ _ (tests told).if-reply-lt-FRAME.false (sym (number_is told) ∙ sound.if-verdict-ne0.false) c.before.if-piece-eq0.true)
+    (record { result = left (start told) c.refuse-then-piece-eq0.ensures; reply = refl })
 
 run_requires : tie.Need-run-requires
 run_requires c κs =
@@ -68,17 +68,17 @@ run_requires c κs =
     let sound = some.before in
     let told = sound.before.before in
     let b = board (start told) in
-    let good = refusal_sound b (sym (number_is told) ∙ sound.if3.false) in
+    let good = refusal_sound b (sym (number_is told) ∙ sound.if-verdict-ne0.false) in
     let wants = ap (λ (v : Verdict). v.wants) (verdict_is told) ∙ wants_sound b good in
-    (full told, omega (arith, wants, sound_count b good (full told)), wants, (tests told).before.if1.false, omega (arith, some.if4.false))
+    (full told, omega (arith, wants, sound_count b good (full told)), wants, (tests told).before.if-piece-gt-PIECE.false, omega (arith, some.if-piece-eq0.false))
 
-taken : tie.Need-returns-5
+taken : tie.Need-returns
 taken c =
     let run = c.before.before in
     let some = run.before.before.before.before in
     let sound = some.before in
     let told = sound.before.before in
-    ran_call _ _ _ _ _ _ (tests told).before.if1.false (tests told).if2.false (sym (number_is told) ∙ sound.if3.false) (omega (arith, some.if4.false)) run.run.ensures
+    ran_call _ _ _ _ _ _ (tests told).before.if-piece-gt-PIECE.false (tests told).if-reply-lt-FRAME.false (sym (number_is told) ∙ sound.if-verdict-ne0.false) (omega (arith, some.if-piece-eq0.false)) run.run.ensures
 
 pub receive_lent_spec : {M : Type 1} → statement M
 receive_lent_spec =
