@@ -5,7 +5,7 @@ use mathlib.Core.Path.{◌≡◌, refl, ap, sym, ◌∙◌}
 use mathlib.Core.Bool.{true, cond}
 use mathlib.Core.List.{List, [], ◌∷◌, ◌++◌}
 use native.Mathlib.Omega.{arith}
-use denote.Ref.{Bor}
+use denote.Ref.{Bor, MutBor}
 use lib.Dec.{eqb, ltb}
 use lib.ListN.{length, take, drop}
 use lib.Seq.{take-append_seam, drop-append_seam}
@@ -46,9 +46,12 @@ pub receive_one : {b : Board} {t : ℕ} {p before after after' : List ℕ} {r r'
     → (r ≡ r') × (after ≡ after')
 receive_one x y = ((promise x).result ∙ sym (promise y).result, (promise x).reply ∙ sym (promise y).reply)
 
--- a reference to a list, to show an answer with
+-- a reference to a list, and one by which it may be changed, to show an answer with
 abbrev pub ref_to : List ℕ → Bor (List ℕ)
 ref_to l = record { ref_ptr = (0, 0); now = l }
+
+abbrev pub lent_to : List ℕ → MutBor (List ℕ)
+lent_to l = record { ref_ptr = (0, 0); ghost_name = 0; now = l }
 
 -- Demand 1: "Every board state, piece of bytes, time stamp and reply buffer gets an answer."
 pub receive_some : (b : Board) (t : ℕ) (p before : List ℕ) → let c = call protocol (refusal_of b) (state_of b) t (length before) p in
@@ -56,7 +59,7 @@ pub receive_some : (b : Board) (t : ℕ) (p before : List ℕ) → let c = call 
 receive_some b t p before =
     let c = call protocol (refusal_of b) (state_of b) t (length before) p in
     let after = c.said.reply ++ drop (length c.said.reply) before in
-    allowed ([], ([], tt)) (b, (ref_to p, (t, (ref_to before, tt)))) (b, (ref_to p, (t, (ref_to after, tt)))) (record { result = refl; reply = refl })
+    allowed ([], ([], tt)) (b, (ref_to p, (t, (lent_to before, tt)))) (b, (ref_to p, (t, (lent_to after, tt)))) (record { result = refl; reply = refl })
     refl refl refl refl refl
 
 -- ---- one call

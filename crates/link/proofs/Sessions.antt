@@ -21,7 +21,7 @@ use Rattle.state.specs.declared.Call.{Call}
 use Rattle.state.proofs.Boards.{fresh_sound}
 use Rattle.state.proofs.fresh.Reads as fresh
 use Rattle.demands.specs.Calls.{Answers}
-use Rattle.demands.proofs.Calls.{ref_to, receive_some, keeps_sound}
+use Rattle.demands.proofs.Calls.{ref_to, lent_to, receive_some, keeps_sound}
 use Rattle.host.specs.Names.{block_number}
 use Rattle.host.specs.declared.Block.{Block}
 use Rattle.host.proofs.Numbered.{number_one}
@@ -244,7 +244,7 @@ module _ (κs : _) (a : _) (b : Board) (s : _) (is : fresh.Post κs a b s) where
 pub write_some : (q : Request) (room : List ℕ) → (w : Written) × Writing q room w (buffer_after (bad_in q) (frame_of q) room)
 write_some q room =
     let w = writes_some (bad_in q) (frame_of q) (length room) in
-    (w.0, allowed ([], tt) (q, (ref_to room, tt)) (q, (ref_to (buffer_after (bad_in q) (frame_of q) room), tt)) (record { answer = w.1; buffer = refl }) refl refl refl)
+    (w.0, allowed ([], tt) (q, (lent_to room, tt)) (q, (lent_to (buffer_after (bad_in q) (frame_of q) room), tt)) (record { answer = w.1; buffer = refl }) refl refl refl)
 
 pub read_some : (bytes : List ℕ) → (x : Reading) × Reads bytes x
 read_some bytes = let x = first_some bytes in (x.0, allowed ([], tt) (ref_to bytes, tt) (ref_to bytes, tt) x.1 refl)
@@ -261,7 +261,7 @@ readable (suc n) bytes =
 pub write_good : (q : Request) (room : List ℕ) → bad_in q ≡ 0 → length (frame_of q) ≤ length room → (out : List ℕ) × Writing q room (Frame (length (frame_of q))) out
 write_good q room good fits =
     let w = says_frame (bad_in q) (frame_of q) room (length (frame_of q)) (sets room 0 (frame_of q)) good fits refl refl in
-    (sets room 0 (frame_of q), allowed ([], tt) (q, (ref_to room, tt)) (q, (ref_to (sets room 0 (frame_of q)), tt)) w refl refl refl)
+    (sets room 0 (frame_of q), allowed ([], tt) (q, (lent_to room, tt)) (q, (lent_to (sets room 0 (frame_of q)), tt)) w refl refl refl)
 
 -- any sequence of them can be asked of any board that is ready, at any stamp
 pub askable : (t : ℕ) (qs : List Request) (b : Board) → Ready b → Sendable qs → (reply : List ℕ) × (orders : List Order) × (end : Board) × Asked b qs reply orders end

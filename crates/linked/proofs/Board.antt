@@ -36,7 +36,7 @@ use Rattle.demands.specs.Reports as reports
 use Rattle.demands.specs.Reports.{Reports}
 use Rattle.demands.specs.Runs as runs
 use Rattle.demands.specs.Runs.{in_state, on_board, From, tokens_of, memory_behind, done, next}
-use Rattle.demands.proofs.Calls.{promise, ref_to, receive_some}
+use Rattle.demands.proofs.Calls.{promise, ref_to, lent_to, receive_some}
 use Rattle.demands.proofs.Reports.{report_promise, report_some}
 use Rattle.demands.proofs.Positions.{place_promise, place_some}
 use Rattle.demands.proofs.Runs.{from_fresh, any_cutting, position_steps, position_microsteps, position_count, gpos_sends, range_recorded, rule_recorded}
@@ -61,9 +61,9 @@ module _ {b : Board} {t : ℕ} {p before after : List ℕ} where
       let said = promise got in
       let d = c.board in
       allowed ([], ([], ([], ([], tt))))
-      (ref_to b.memory.settings.bytes, (ref_to b.held, (rest_of b, (ref_to p, (t, (ref_to before, tt))))))
+      (lent_to b.memory.settings.bytes, (lent_to b.held, (rest_of b, (ref_to p, (t, (lent_to before, tt))))))
       (flat c).answer
-      (ref_to d.memory.settings.bytes, (ref_to d.held, (rest_of b, (ref_to p, (t, (ref_to after, tt))))))
+      (lent_to d.memory.settings.bytes, (lent_to d.held, (rest_of b, (ref_to p, (t, (lent_to after, tt))))))
       (record { result = ap flat said.result; reply = said.reply })
       refl refl refl refl refl refl
 

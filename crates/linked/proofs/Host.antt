@@ -11,7 +11,7 @@ use Rattle.orders.specs.declared.Order.{Order}
 use Rattle.state.specs.declared.Board.{Board}
 use Rattle.state.specs.declared.Call.{Call}
 use Rattle.demands.specs.Calls.{Answers}
-use Rattle.demands.proofs.Calls.{ref_to}
+use Rattle.demands.proofs.Calls.{ref_to, lent_to}
 use Rattle.board.specs.Answer.{flat, Left as FlatCall}
 use Rattle.host.specs.Names.{block_number, block_at, order_at, order_number as number_of}
 use Rattle.host.specs.declared.Block.{Block}
@@ -91,16 +91,16 @@ module _ {before after : List ℕ} {w : Written} where
 
   pub get_all : {n : ℕ} {b : Block} → block_at n ≡ block.Known b → Writing (Get b) before w after → WritesGet n before (flat_written (written_as w)) after
   get_all {n} e got =
-      allowed ([], tt) (n, (ref_to before, tt)) (n, (ref_to after, tt)) (flats.asks_as _ _ (ap get_asked (sym e)) (said_one got)) refl refl refl
+      allowed ([], tt) (n, (lent_to before, tt)) (n, (lent_to after, tt)) (flats.asks_as _ _ (ap get_asked (sym e)) (said_one got)) refl refl refl
 
   pub set_all : {n : ℕ} {b : Block} (x : Blocks) → block_at n ≡ block.Known b → Writing (Set (fields_at x b)) before w after → WritesSet n x before (flat_written (written_as w)) after
   set_all {n} x e got =
-      allowed ([], tt) (n, (x, (ref_to before, tt))) (n, (x, (ref_to after, tt))) (flats.asks_as _ _ (ap (set_asked x) (sym e)) (said_one got))
+      allowed ([], tt) (n, (x, (lent_to before, tt))) (n, (x, (lent_to after, tt))) (flats.asks_as _ _ (ap (set_asked x) (sym e)) (said_one got))
       refl refl refl refl
 
   pub order_all : {n : ℕ} {o : host.Order} → order_at n ≡ order.Known o → Writing (Give o) before w after → WritesOrder n before (flat_written (written_as w)) after
   order_all {n} e got =
-      allowed ([], tt) (n, (ref_to before, tt)) (n, (ref_to after, tt)) (flats.asks_as _ _ (ap order_asked (sym e)) (said_one got)) refl refl refl
+      allowed ([], tt) (n, (lent_to before, tt)) (n, (lent_to after, tt)) (flats.asks_as _ _ (ap order_asked (sym e)) (said_one got)) refl refl refl
 
 -- a block's own fields, among blocks that hold them
 own_fields : (f : Fields) → fields_at (blocks_with f) (block_of f) ≡ f

@@ -6,7 +6,7 @@ use Rattle.board.proofs.rivertosku_judge_4.Statement.{statement}
 use Rattle.board.proofs.rivertosku_judge_4.Tie as tie
 
 returns : tie.Need-returns
-returns c = ap (λ (v : Verdict). v.number) c.judge.ensures
+returns c = ap (λ (v : Verdict). v.number) c.judge-verdict.ensures
 
 pub rivertosku_judge_4_spec : {M : Type 1} → statement M
 rivertosku_judge_4_spec = tie.close (tie.spec (λ c κs. search rules) returns)

@@ -8,8 +8,8 @@ returns : tie.Need-returns
 returns c =
     let steps = c.before in
     let number = steps.before in
-    let call = number.before.before.before.before.receive-lent in
-    laid_flat _ _ _ _ _ _ _ _ _ _ _ number.order-number.ensures steps.order-steps.ensures c.order-microsteps.ensures call.ensures
+    let call = number.before.before.before.before.receive_lent-done in
+    laid_flat _ _ _ _ _ _ _ _ _ _ _ number.order_number.ensures steps.order_steps.ensures c.order_microsteps.ensures call.ensures
 
 pub rivertosku_receive_4_spec : {M : Type 1} → statement M
 rivertosku_receive_4_spec =

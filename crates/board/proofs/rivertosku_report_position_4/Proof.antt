@@ -4,7 +4,7 @@ use Rattle.board.proofs.rivertosku_report_position_4.Statement.{statement}
 use Rattle.board.proofs.rivertosku_report_position_4.Tie as tie
 
 returns : tie.Need-returns
-returns c = c.report-position.ensures
+returns c = c.report_position.ensures
 
 pub rivertosku_report_position_4_spec : {M : Type 1} → statement M
 rivertosku_report_position_4_spec = tie.close (tie.spec (λ c κs. search rules) returns)
