@@ -1,5 +1,5 @@
 -- No byte is lost or counted twice: a run's bytes are those of its units and dropped beginnings, in sequence, and then the unfinished ones.
-use Prim.Native.Nat.{ℕ, ◌+◌}
+use Prim.Native.Nat.{ℕ}
 use mathlib.Core.Path.{◌≡◌, refl, ap, sym, ◌∙◌}
 use mathlib.Core.Bool.{Bool}
 use mathlib.Core.List.{List, [], ◌∷◌, ◌++◌, append_assoc, append-nil}

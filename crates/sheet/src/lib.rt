@@ -1,4 +1,6 @@
 // Sheet 01's table of blocks is a definition (specs/Sheet.antt); here is only what the code of each block is held against.
+#![tactic(auto)]
+
 pub mod names;
 
 // The longest frame, set or answer: the least room for a reply, and one byte more than the longest unfinished unit.

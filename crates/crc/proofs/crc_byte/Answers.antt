@@ -15,7 +15,7 @@ returns c =
     let x = bit_xor r b % 256 in
     let next : c.if-x-eq1.next ≡ marked x (r / 256) =
     elim c.if-x-eq1.branch [
-      then-x-eq1 w ↦ rw (eq-eqb (ones x % 2) 1 w.if-x-eq1.true) w.next-is
-    | else-x-eq1 w ↦ rw (ne_eqb (ones x % 2) 1 w.if-x-eq1.false) w.next-is
+      | then-x-eq1 w ↦ rw (eq-eqb (ones x % 2) 1 w.if-x-eq1.true) w.next-is
+      | else-x-eq1 w ↦ rw (ne_eqb (ones x % 2) 1 w.if-x-eq1.false) w.next-is
     ] in
     rw next (byte_at_once r b (search rules))

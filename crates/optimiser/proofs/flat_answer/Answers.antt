@@ -9,7 +9,7 @@ use Rattle.fields.specs.declared.Fields.{Fields}
 use Rattle.blocks.specs.declared.Blocks.{Blocks}
 use Rattle.answer.specs.Answer.{answer_of}
 use Rattle.answer.specs.declared.Answer.TheVariants.{Data}
-use Rattle.optimiser.specs.Flat.{plain_answer, flat_read}
+use Rattle.optimiser.specs.Flat.{flat_read}
 use Rattle.optimiser.specs.declared.FlatAnswer.{FlatAnswer}
 use Rattle.optimiser.proofs.flat_answer.Goals as goal
 

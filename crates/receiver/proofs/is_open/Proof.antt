@@ -1,6 +1,5 @@
 -- `receiver::is_open` meets its contract. Assumes nothing.
 use native.Mathlib.Omega.{arith}
-use borrow.Author.Rules.{rules}
 use borrow.Author.Tests.{eq-eqb, ne_eqb}
 use Rattle.receiver.proofs.is_open.Statement.{statement}
 use Rattle.receiver.proofs.is_open.Tie as tie

@@ -5,7 +5,6 @@ use Prim.Native.Nat.{ℕ, ◌≤◌}
 use native.Mathlib.Omega.{arith}
 use lib.ListN.{length}
 use borrow.Author.Rules.{rules}
-use borrow.Author.Tests.{not-true, not-false}
 use Rattle.frame.specs.Frame.{data_in}
 use Rattle.frame.proofs.Frames.{intact_long}
 use Rattle.sheet.specs.Sheet.{spos_row}
