@@ -1,6 +1,7 @@
 -- How many calls a record and a trace get: at least, at most, and without the number that bounds them. Assumes nothing.
 use Prim.Native.Nat.{ℕ, zero, suc, ◌+◌, ◌≤◌, ◌<◌}
 use mathlib.Core.List.{List, [], ◌∷◌}
+use Rattle.std.specs.Prelude.{Result, Ok, Err, IfOk}
 use mathlib.Core.Path.{◌≡◌, refl, sym, ap, ◌∙◌}
 use native.Mathlib.Omega.{arith}
 use lib.ListN.{length, take, drop, length-take, length-drop}
@@ -112,9 +113,15 @@ each x (r ∷ rs) = omega (arith, calls_some r.stamp (length r.bytes) x r.bytes,
 pub each_called : (s : List ℕ) → length (records_in s) ≤ calls_in s
 each_called s = each fresh_state (records_in s)
 
--- and so it is in every answer that the contract of `run` allows
-pub run_calls_each : (κs : _) (a : _) (r : Ran) (s : _) → run.Post κs a r s → length (records_in a.0.now) ≤ r.calls
-run_calls_each κs a r s is = omega (arith, each_called a.0.now, is.1)
+-- what follows of the value of an answer
+if_ok : {T E : Type 0} {P Q : T → Type 0} (r : Result T E) → ((x : T) → P x → Q x) → IfOk r P → IfOk r Q
+if_ok (Ok x) f p = f x p
+if_ok (Err e) f p = p
+
+-- and so it is in every answer that the contract of `run` allows, at any writer
+pub run_calls_each : (w : _) (l : _) (g : _) (d : _) (κs : _) (a : _) (r : _) (s : _) → run.Post w l g d κs a r s
+    → IfOk r (λ (ran : Ran). length (records_in a.1.0.now) ≤ ran.calls)
+run_calls_each w l g d κs a r s is = if_ok r (λ ran p. omega (arith, each_called a.1.0.now, p.1)) is.0
 
 fewer : (n : ℕ) (x : State Memory) (s : List ℕ) → calls_of x (records n s) ≤ length s
 unfolding records calls_of

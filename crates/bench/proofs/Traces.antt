@@ -3,11 +3,9 @@ use Prim.Native.Nat.{ℕ, zero, suc, ◌+◌, ◌-◌, ◌≤◌}
 use mathlib.Core.List.{List, [], ◌∷◌}
 use mathlib.Core.Path.{◌≡◌, refl, sym, ap, ◌∙◌}
 use native.Mathlib.Omega.{arith}
-use mathlib.Core.Logic.{◌⊎◌, ⊎_elim}
 use lib.ListN.{length, take, drop, length-take, length-drop}
 use lib.Seq.{drop-drop}
 use borrow.Rule.Slice.PartMut.{mid_of}
-use denote.Enum.Declared.{tag_of}
 use Rattle.rule.specs.Run.{at}
 use Rattle.rule.specs.Rule.{State, whole_run}
 use Rattle.rule.specs.Step.{steps}
@@ -20,7 +18,6 @@ use Rattle.trace.specs.declared.Head.{Head}
 use Rattle.trace.specs.declared.Reading.{Reading}
 use Rattle.trace.specs.declared.Reading.TheVariants.{Record, More, Bad}
 use Rattle.trace.proofs.Records.{record_fits}
-use Rattle.trace.specs.contracts.Reading.{the_type}
 use Rattle.state.specs.State.{state_of, board_of}
 use Rattle.state.specs.declared.Board.{Board}
 use Rattle.state.proofs.Boards.{state_board}
@@ -74,9 +71,9 @@ records_are s =
 pub records_none : (s : List ℕ) (k : ℕ) → length s ≤ k → records_in (drop k s) ≡ []
 records_none s k h = none (length (drop k s)) (drop k s) (omega (arith, length-drop k s))
 
--- a part that reads as no record holds none; 1 and 2 are the places of `More` and `Bad` in the enum
-unread : (s : List ℕ) (v : Reading) → (tag_of the_type v ≡ 1) ⊎ (tag_of the_type v ≡ 2) → offered records_in s v ≡ []
-unread s (Record h) w = absurd (⊎_elim (λ e. omega arith) (λ e. omega arith) w)
+-- a part that reads as no record holds none
+unread : (s : List ℕ) (v : Reading) → ((h : Head) → v ≡ Record h → ⊥) → offered records_in s v ≡ []
+unread s (Record h) w = absurd (w h refl)
 unread s More w = refl
 unread s Bad w = refl
 
@@ -127,7 +124,7 @@ module _ {b : Board} {n : ℕ} {v : Reading} (s : List ℕ) (k : ℕ) (l : SoFar
   here = records_are (drop k s) ∙ ap (offered records_in (drop k s)) (sym read)
 
   -- no record: none is left
-  pub stops : (tag_of the_type v ≡ 1) ⊎ (tag_of the_type v ≡ 2) → records_in (drop k s) ≡ []
+  pub stops : ((h : Head) → v ≡ Record h → ⊥) → records_in (drop k s) ≡ []
   stops w = here ∙ unread (drop k s) v w
 
   module _ {h : Head} (e : v ≡ Record h) where
