@@ -4,133 +4,116 @@ use answer::{Answer, Reading};
 use fields::Fields;
 use host::{FoundBlock, FoundOrder};
 use request::{Request, Written};
+use std::io;
+use std::io::Write;
 
-fn verdict(number: usize, length: usize) {
-    print::number(number);
-    print::number(length);
+fn verdict(out: &mut impl Write, number: usize, length: usize) -> io::Result<()> {
+    print::number(out, number)?;
+    print::number(out, length)
 }
 
-fn show_written(written: Written) {
+fn show_written(out: &mut impl Write, written: Written) -> io::Result<()> {
     match written {
-        Written::Frame(length) => {
-            verdict(0, length);
-        }
-        Written::OutOfRange => {
-            verdict(3, 0);
-        }
-        Written::TooShort => {
-            verdict(4, 0);
-        }
+        Written::Frame(length) => verdict(out, 0, length),
+        Written::OutOfRange => verdict(out, 3, 0),
+        Written::TooShort => verdict(out, 4, 0),
     }
 }
 
-fn write_in(asked: Request, room: usize, buffer: &mut [u8]) {
+fn write_in(
+    out: &mut impl Write,
+    asked: Request,
+    room: usize,
+    buffer: &mut [u8],
+) -> io::Result<()> {
     let size = print::within(buffer, room);
     let written = request::write(asked, &mut buffer[..size]);
-    show_written(written);
-    print::beginning(buffer, size);
-    print::say(b"\n");
+    show_written(out, written)?;
+    print::beginning(out, buffer, size)?;
+    print::say(out, b"\n")
 }
 
-fn write(asked: Request, room: usize) {
+fn write(out: &mut impl Write, asked: Request, room: usize) -> io::Result<()> {
     let mut buffer = print::buffer();
-    write_in(asked, room, &mut buffer);
+    write_in(out, asked, room, &mut buffer)
 }
 
 // A number that no block or order has.
-fn nobody() {
-    print::say(b"no such number\n");
+fn nobody(out: &mut impl Write) -> io::Result<()> {
+    print::say(out, b"no such number\n")
 }
 
-pub fn write_get(number: usize, room: usize) {
+pub fn write_get(out: &mut impl Write, number: usize, room: usize) -> io::Result<()> {
     let FoundBlock::Known(block) = host::block_at(number) else {
-        nobody();
-        return;
+        return nobody(out);
     };
-    write(Request::Get(block), room);
+    write(out, Request::Get(block), room)
 }
 
-pub fn write_set(number: usize, room: usize, section: &[u8]) {
+pub fn write_set(
+    out: &mut impl Write,
+    number: usize,
+    room: usize,
+    section: &[u8],
+) -> io::Result<()> {
     let FoundBlock::Known(block) = host::block_at(number) else {
-        nobody();
-        return;
+        return nobody(out);
     };
-    write(Request::Set(fields::decode(block, section)), room);
+    write(out, Request::Set(fields::decode(block, section)), room)
 }
 
-pub fn write_order(number: usize, room: usize) {
+pub fn write_order(out: &mut impl Write, number: usize, room: usize) -> io::Result<()> {
     let FoundOrder::Known(order) = host::order_at(number) else {
-        nobody();
-        return;
+        return nobody(out);
     };
-    write(Request::Give(order), room);
+    write(out, Request::Give(order), room)
 }
 
 // Four letters, behind a space.
-fn letters(name: u32) {
+fn letters(out: &mut impl Write, name: u32) -> io::Result<()> {
     let mut text = [0u8; 4];
     wire::put(&mut text, 0, 4, name as u64);
-    print::say(b" ");
-    print::say(&text);
+    print::say(out, b" ")?;
+    print::say(out, &text)
 }
 
-fn show_data(data: Fields) {
+fn show_data(out: &mut impl Write, data: Fields) -> io::Result<()> {
     let head = host::head_of(fields::block_of(data));
-    letters(head.get);
+    letters(out, head.get)?;
     let mut section = [0xeeu8; host::FRAME];
     fields::encode(data, &mut section);
-    print::hexadecimal(&section);
+    print::hexadecimal(out, &section)
 }
 
-fn show_answer(read: Answer) {
+fn show_answer(out: &mut impl Write, read: Answer) -> io::Result<()> {
     match read {
-        Answer::Zero => {
-            print::say(b" zero");
-        }
+        Answer::Zero => print::say(out, b" zero"),
         Answer::SetEcho(block) => {
             let head = host::head_of(block);
-            letters(head.set);
+            letters(out, head.set)
         }
-        Answer::OrderEcho(order) => {
-            letters(host::order_name(order));
-        }
-        Answer::Data(data) => {
-            show_data(data);
-        }
-        Answer::Errc => {
-            letters(sheet::names::ERRC);
-        }
-        Answer::Errd => {
-            letters(sheet::names::ERRD);
-        }
-        Answer::Errv => {
-            letters(sheet::names::ERRV);
-        }
+        Answer::OrderEcho(order) => letters(out, host::order_name(order)),
+        Answer::Data(data) => show_data(out, data),
+        Answer::Errc => letters(out, sheet::names::ERRC),
+        Answer::Errd => letters(out, sheet::names::ERRD),
+        Answer::Errv => letters(out, sheet::names::ERRV),
     }
 }
 
-fn show_reading(reading: Reading) {
+fn show_reading(out: &mut impl Write, reading: Reading) -> io::Result<()> {
     match reading {
         Reading::Took(length, read) => {
-            verdict(0, length);
-            show_answer(read);
+            verdict(out, 0, length)?;
+            show_answer(out, read)
         }
-        Reading::NoName => {
-            verdict(5, 0);
-        }
-        Reading::NoAnswer => {
-            verdict(6, 0);
-        }
-        Reading::Cut => {
-            verdict(7, 0);
-        }
-        Reading::Damaged => {
-            verdict(8, 0);
-        }
+        Reading::NoName => verdict(out, 5, 0),
+        Reading::NoAnswer => verdict(out, 6, 0),
+        Reading::Cut => verdict(out, 7, 0),
+        Reading::Damaged => verdict(out, 8, 0),
     }
 }
 
-pub fn read(bytes: &[u8]) {
-    show_reading(answer::read(bytes));
-    print::say(b"\n");
+pub fn read(out: &mut impl Write, bytes: &[u8]) -> io::Result<()> {
+    show_reading(out, answer::read(bytes))?;
+    print::say(out, b"\n")
 }

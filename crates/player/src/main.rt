@@ -26,7 +26,8 @@
 // Behind what `take`, a call or a report prints: flags, last refused block and field, position, count of unfinished bytes, these bytes, last stamp.
 // A position is printed as steps:microsteps:count, an order as the bench prints it. Buffers have as many bytes as the room says, 300 at most, all ee
 // before. Every operation that prints ends the line, but for `say`.
-// A get, a set or an order of a number that nobody has prints `no such number`.
+// A get, a set or an order of a number that nobody has prints `no such number`. An input that cannot be read, or an output that cannot be written, ends
+// the program with that error.
 #![tactic(auto)]
 
 mod arithmetic;
@@ -34,9 +35,12 @@ mod boards;
 mod hosts;
 mod print;
 
-ghost use Rattle.io.specs.Counts.{IsPrefixLen};
+ghost use Rattle.std.specs.Prelude.{IfOk, OnErr};
+ghost use Rattle.streams.specs.Streams.{IsPrefixLen, IsPartly};
 
 use state::Board;
+use std::io;
+use std::io::{Read, Write};
 
 // What stands in front of a case's bytes.
 #[derive(Clone, Copy)]
@@ -59,122 +63,93 @@ fn head_of(case: &[u8]) -> Head {
 }
 
 // A case without a board.
-fn show(head: Head, bytes: &[u8]) {
+fn show(out: &mut impl Write, head: Head, bytes: &[u8]) -> io::Result<()> {
     let operation = head.operation;
     match operation {
-        b'"' => {
-            print::say(bytes);
-        }
-        b'g' => {
-            hosts::write_get(head.number, head.room);
-        }
-        b's' => {
-            hosts::write_set(head.number, head.room, bytes);
-        }
-        b'o' => {
-            hosts::write_order(head.number, head.room);
-        }
-        b'a' => {
-            hosts::read(bytes);
-        }
-        b'x' => {
-            arithmetic::checksum(bytes);
-        }
-        b'i' => {
-            arithmetic::integer(head.stamp);
-        }
-        _ => {
-            print::say(b"no operation\n");
-        }
+        b'"' => print::say(out, bytes),
+        b'g' => hosts::write_get(out, head.number, head.room),
+        b's' => hosts::write_set(out, head.number, head.room, bytes),
+        b'o' => hosts::write_order(out, head.number, head.room),
+        b'a' => hosts::read(out, bytes),
+        b'x' => arithmetic::checksum(out, bytes),
+        b'i' => arithmetic::integer(out, head.stamp),
+        _ => print::say(out, b"no operation\n"),
     }
 }
 
 // A call, a report, a look at the board, or a case without one; the next board.
-fn ask(head: Head, board: Board, bytes: &[u8]) -> Board {
+fn ask(out: &mut impl Write, head: Head, board: Board, bytes: &[u8]) -> io::Result<Board> {
     let operation = head.operation;
     match operation {
-        b'c' => {
-            return boards::call(board, head.number, head.room, head.stamp, bytes);
-        }
-        b'r' => {
-            return boards::report_time(board, head.stamp);
-        }
-        b'd' => {
-            return boards::report_position(board, bytes);
-        }
-        b'l' => {
-            return boards::hand_out(board, head.room);
-        }
-        b'b' => {
-            return boards::show_block(board, head.number);
-        }
-        b'k' => {
-            return boards::show_held(board);
-        }
+        b'c' => boards::call(out, board, head.number, head.room, head.stamp, bytes),
+        b'r' => boards::report_time(out, board, head.stamp),
+        b'd' => boards::report_position(out, board, bytes),
+        b'l' => boards::hand_out(out, board, head.room),
+        b'b' => boards::show_block(out, board, head.number),
+        b'k' => boards::show_held(out, board),
         _ => {
-            show(head, bytes);
-            return board;
+            show(out, head, bytes)?;
+            Ok(board)
         }
     }
 }
 
 // One case; the next board.
-fn step(head: Head, board: Board, bytes: &[u8]) -> Board {
+fn step(out: &mut impl Write, head: Head, board: Board, bytes: &[u8]) -> io::Result<Board> {
     let operation = head.operation;
     match operation {
-        b'f' => {
-            return state::fresh();
-        }
-        b't' => {
-            return boards::take_back(bytes);
-        }
-        b'p' => {
-            return boards::put(board, head.room, bytes);
-        }
-        b'n' => {
-            return boards::note(board, bytes);
-        }
-        b'w' => {
-            return boards::place(board, bytes);
-        }
-        b'h' => {
-            return boards::hold(board, head.room, head.stamp, bytes);
-        }
-        _ => {
-            return ask(head, board, bytes);
-        }
+        b'f' => Ok(state::fresh()),
+        b't' => boards::take_back(out, bytes),
+        b'p' => Ok(boards::put(board, head.room, bytes)),
+        b'n' => Ok(boards::note(board, bytes)),
+        b'w' => Ok(boards::place(board, bytes)),
+        b'h' => Ok(boards::hold(board, head.room, head.stamp, bytes)),
+        _ => ask(out, head, board, bytes),
     }
 }
 
 // Reads as many bytes as are asked for, if there are as many and there is room; how many those are.
-fn read_in(asked: usize, buffer: &mut [u8]) -> usize
-    ensures { IsPrefixLen result buffer.new }
+fn read_in<R: Read>(input: &mut R, asked: usize, buffer: &mut [u8]) -> io::Result<usize>
+    ensures ok { IfOk result (λ n. IsPrefixLen n buffer.new) }
+    ensures err { OnErr result (IsPartly (R.remaining input.old) (R.remaining input.new) buffer.new) }
 {
     let room = print::within(buffer, asked);
-    let got = io::read_full(0, &mut buffer[..room]);
-    print::within(buffer, got)
+    let got = streams::read_full(input, &mut buffer[..room])?;
+    Ok(print::within(buffer, got))
 }
 
-fn step_in(head: Head, board: Board, buffer: &mut [u8]) -> Board {
-    let count = read_in(head.count, buffer);
-    step(head, board, &buffer[..count])
+fn step_in(
+    input: &mut impl Read,
+    out: &mut impl Write,
+    head: Head,
+    board: Board,
+    buffer: &mut [u8],
+) -> io::Result<Board> {
+    let count = read_in(input, head.count, buffer)?;
+    step(out, head, board, &buffer[..count])
 }
 
-fn step_behind(start: &[u8], board: Board) -> Board {
+fn step_behind(
+    input: &mut impl Read,
+    out: &mut impl Write,
+    start: &[u8],
+    board: Board,
+) -> io::Result<Board> {
     let mut bytes = print::buffer();
-    step_in(head_of(start), board, &mut bytes)
+    step_in(input, out, head_of(start), board, &mut bytes)
 }
 
 // Case after case, until there is none. The number bounds them, since nobody knows how long the input is.
-fn main() {
+fn main(rt: HostRuntime) -> io::Result<()> {
+    let mut input = rt.stdin();
+    let mut out = rt.stdout();
     let mut board = state::fresh();
-    let mut left = 1000000usize;
-    while 0 < left {
+    for _ in 0..1000000 {
         let mut start = [0u8; 10];
-        if io::read_full(0, &mut start) < 10 {
-            return;
+        if streams::read_full(&mut input, &mut start)? < 10 {
+            return Ok(());
         }
-        board = step_behind(&start, board);
-        left -= 1;
+        board = step_behind(&mut input, &mut out, &start, board)?;
     }
+    Ok(())
 }

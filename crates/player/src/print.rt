@@ -1,36 +1,40 @@
-// What the program prints, to standard output, and the buffers it is printed of.
+// What the program prints, to any writer, and the buffers it is printed of. An error is the writer's.
 ghost use Rattle.std.specs.Prelude.{◌≡◌, min, length, replicate};
-ghost use Rattle.io.specs.Counts.{IsPrefixLen};
+ghost use Rattle.streams.specs.Streams.{Says, IsPrefixLen};
 
-pub fn say(text: &[u8]) {
-    io::write_all(1, text);
+use std::io;
+use std::io::Write;
+
+pub fn say<W: Write>(out: &mut W, text: &[u8]) -> io::Result<()>
+    ensures { Says (W.contents out.old) (W.contents out.new) result text.now }
+{
+    streams::say(out, text)
 }
 
-pub fn number(n: usize) {
-    say(b" ");
-    io::print_decimal(1, n as u64);
+pub fn number(out: &mut impl Write, n: usize) -> io::Result<()> {
+    write!(out, " {n}")
 }
 
 // A signed number, behind a mark: 20 bytes hold the longest.
-pub fn signed(mark: &[u8], z: i64) {
+pub fn signed(out: &mut impl Write, mark: &[u8], z: i64) -> io::Result<()> {
     let mut digits = [0u8; 20];
     let n = text::write_signed(&mut digits, 0, z);
-    say(mark);
-    say(&digits[..n]);
+    say(out, mark)?;
+    say(out, &digits[..n])
 }
 
 // The bytes in hexadecimal, or `-`.
-pub fn hexadecimal(part: &[u8]) {
+pub fn hexadecimal(out: &mut impl Write, part: &[u8]) -> io::Result<()> {
     let mut digits = [0u8; 600];
     let n = text::write_reply(&mut digits, 0, part);
-    say(b" ");
-    say(&digits[..n]);
+    say(out, b" ")?;
+    say(out, &digits[..n])
 }
 
 // The first n of the bytes, as many as there are.
-pub fn beginning(part: &[u8], n: usize) {
+pub fn beginning(out: &mut impl Write, part: &[u8], n: usize) -> io::Result<()> {
     let end = within(part, n);
-    hexadecimal(&part[..end]);
+    hexadecimal(out, &part[..end])
 }
 
 // How many of n bytes a part has. The second half follows from the first: the proofs that Rattle makes of the callers look for it.
