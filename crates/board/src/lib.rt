@@ -1,4 +1,4 @@
-// The receiver as C and Rust link it: functions of the crates below, the order as its number and its values.
+// The receiver as C and Rust link it, by board_c: functions of the crates below, the order as its number and its values.
 // The names end in the number of the structs' layout: a header of another layout asks for other names, and does not link.
 #![tactic(auto)]
 
@@ -29,16 +29,14 @@ pub struct Answer {
 }
 
 // A board that has taken nothing yet.
-#[unsafe(no_mangle)]
-pub extern "C" fn rivertosku_fresh_4() -> Board
+pub fn rivertosku_fresh_4() -> Board
     ensures { result ≡ board_of fresh_state }
 {
     state::fresh()
 }
 
 // One call: a piece of bytes that share a stamp, and room for the replies. The board's arrays are lent, and changed where they stand.
-#[unsafe(no_mangle)]
-pub extern "C" fn rivertosku_receive_4(
+pub fn rivertosku_receive_4(
     table: &mut [u8; table::SIZE],
     held: &mut [u8; sheet::FRAME],
     rest: Rest,
@@ -63,24 +61,21 @@ pub extern "C" fn rivertosku_receive_4(
 }
 
 // One report of the time: what is unfinished is dropped where its last byte is too long ago.
-#[unsafe(no_mangle)]
-pub extern "C" fn rivertosku_report_clock_4(board: Board, now: u32) -> Report
+pub fn rivertosku_report_clock_4(board: Board, now: u32) -> Report
     ensures { result ≡ reported board now }
 {
     clock::report_time(board, now)
 }
 
 // One report of the position: it is the one reported, and nothing else changes.
-#[unsafe(no_mangle)]
-pub extern "C" fn rivertosku_report_position_4(board: Board, position: Position) -> Report
+pub fn rivertosku_report_position_4(board: Board, position: Position) -> Report
     ensures { result ≡ located board position }
 {
     drive::report_position(board, position)
 }
 
 // 0, or 3 where the board is not sound.
-#[unsafe(no_mangle)]
-pub extern "C" fn rivertosku_judge_4(board: Board) -> u8
+pub fn rivertosku_judge_4(board: Board) -> u8
     ensures { result ≡ refusal_of board }
 {
     let verdict = state::judge(board);
@@ -88,16 +83,14 @@ pub extern "C" fn rivertosku_judge_4(board: Board) -> u8
 }
 
 // For the flash writer: the table of a board's settings, at the front of out; a refusal writes nothing.
-#[unsafe(no_mangle)]
-pub extern "C" fn rivertosku_hand_out_4(board: Board, out: &mut [u8]) -> u8
+pub fn rivertosku_hand_out_4(board: Board, out: &mut [u8]) -> u8
     ensures { (result ≡ out_number board (length out.old)) × (out.new ≡ handed board out.old) }
 {
     flash::hand_out(board, out)
 }
 
 // A board of a stored table; a fresh one where the table is refused.
-#[unsafe(no_mangle)]
-pub extern "C" fn rivertosku_take_back_4(bytes: &[u8]) -> Report
+pub fn rivertosku_take_back_4(bytes: &[u8]) -> Report
     ensures { result ≡ taken_back bytes.now }
 {
     flash::take_back(bytes)

@@ -1,4 +1,4 @@
-// The host's writer and reader as C and Rust link them: flat, a block or an order by its number of 01.
+// The host's writer and reader as C and Rust link them, by optimiser_c: flat, a block or an order by its number of 01.
 // The names end in the number of the structs' layout: a header of another layout asks for other names, and does not link.
 #![tactic(auto)]
 
@@ -63,8 +63,7 @@ fn write(request: Request, out: &mut [u8]) -> FlatWritten
 }
 
 // The frame of a get of the block of this number.
-#[unsafe(no_mangle)]
-pub extern "C" fn rivertosku_write_get_1(block: u8, out: &mut [u8]) -> FlatWritten
+pub fn rivertosku_write_get_1(block: u8, out: &mut [u8]) -> FlatWritten
     ensures { FlatWrites (get_asked (block_at block)) out.old result out.new }
 {
     let found = host::block_at(block as usize);
@@ -79,8 +78,7 @@ pub extern "C" fn rivertosku_write_get_1(block: u8, out: &mut [u8]) -> FlatWritt
 }
 
 // The frame of a set of the block of this number, with its fields among the blocks.
-#[unsafe(no_mangle)]
-pub extern "C" fn rivertosku_write_set_1(block: u8, blocks: Blocks, out: &mut [u8]) -> FlatWritten
+pub fn rivertosku_write_set_1(block: u8, blocks: Blocks, out: &mut [u8]) -> FlatWritten
     ensures { FlatWrites (set_asked blocks (block_at block)) out.old result out.new }
 {
     let found = host::block_at(block as usize);
@@ -95,8 +93,7 @@ pub extern "C" fn rivertosku_write_set_1(block: u8, blocks: Blocks, out: &mut [u
 }
 
 // The frame of the order of this number.
-#[unsafe(no_mangle)]
-pub extern "C" fn rivertosku_write_order_1(order: u8, out: &mut [u8]) -> FlatWritten
+pub fn rivertosku_write_order_1(order: u8, out: &mut [u8]) -> FlatWritten
     ensures { FlatWrites (order_asked (order_at order)) out.old result out.new }
 {
     let found = host::order_at(order as usize);
@@ -158,8 +155,7 @@ fn flat_answer(size: usize, answer: Answer) -> FlatAnswer
 }
 
 // One answer from the front of what the board sent.
-#[unsafe(no_mangle)]
-pub extern "C" fn rivertosku_read_1(bytes: &[u8]) -> FlatAnswer
+pub fn rivertosku_read_1(bytes: &[u8]) -> FlatAnswer
     ensures { result ≡ flat_read (first_answer bytes.now) }
 {
     let reading = answer::read(bytes);

@@ -1,4 +1,4 @@
-// The fields of a block, read out of a table: for C and Rust, in an archive of its own, as `same` is. Past the end of a shorter table stand zeros.
+// The fields of a block, read out of a table: for C and Rust, in an archive of its own (views_c), as same_c is. Past the end of a shorter table stand zeros.
 #![tactic(auto)]
 
 ghost use Rattle.std.specs.Prelude.{◌≡◌};
@@ -23,64 +23,55 @@ use mov::Mov;
 use pid::Pid;
 use pwr::Pwr;
 
-#[unsafe(no_mangle)]
-pub extern "C" fn rivertosku_mov_4(bytes: &[u8]) -> Mov
+pub fn rivertosku_mov_4(bytes: &[u8]) -> Mov
     ensures { result ≡ mov_of (numbers_of bytes.now 1) }
 {
     Mov::decode(table::part(bytes, 0, 24))
 }
 
-#[unsafe(no_mangle)]
-pub extern "C" fn rivertosku_eng_4(bytes: &[u8]) -> Eng
+pub fn rivertosku_eng_4(bytes: &[u8]) -> Eng
     ensures { result ≡ eng_of (numbers_of bytes.now 2) }
 {
     Eng::decode(table::part(bytes, 24, 28))
 }
 
-#[unsafe(no_mangle)]
-pub extern "C" fn rivertosku_pwr_4(bytes: &[u8]) -> Pwr
+pub fn rivertosku_pwr_4(bytes: &[u8]) -> Pwr
     ensures { result ≡ pwr_of (numbers_of bytes.now 3) }
 {
     Pwr::decode(table::part(bytes, 52, 14))
 }
 
-#[unsafe(no_mangle)]
-pub extern "C" fn rivertosku_eds_4(bytes: &[u8]) -> Eds
+pub fn rivertosku_eds_4(bytes: &[u8]) -> Eds
     ensures { result ≡ eds_of (numbers_of bytes.now 4) }
 {
     Eds::decode(table::part(bytes, 66, 20))
 }
 
-#[unsafe(no_mangle)]
-pub extern "C" fn rivertosku_hom_4(bytes: &[u8]) -> Hom
+pub fn rivertosku_hom_4(bytes: &[u8]) -> Hom
     ensures { result ≡ hom_of (numbers_of bytes.now 5) }
 {
     Hom::decode(table::part(bytes, 86, 27))
 }
 
-#[unsafe(no_mangle)]
-pub extern "C" fn rivertosku_brk_4(bytes: &[u8]) -> Brk
+pub fn rivertosku_brk_4(bytes: &[u8]) -> Brk
     ensures { result ≡ brk_of (numbers_of bytes.now 6) }
 {
     Brk::decode(table::part(bytes, 113, 19))
 }
 
-#[unsafe(no_mangle)]
-pub extern "C" fn rivertosku_pid_4(bytes: &[u8]) -> Pid
+pub fn rivertosku_pid_4(bytes: &[u8]) -> Pid
     ensures { result ≡ pid_of (numbers_of bytes.now 7) }
 {
     Pid::decode(table::part(bytes, 132, 42))
 }
 
-#[unsafe(no_mangle)]
-pub extern "C" fn rivertosku_ctl_4(bytes: &[u8]) -> Ctl
+pub fn rivertosku_ctl_4(bytes: &[u8]) -> Ctl
     ensures { result ≡ ctl_of (numbers_of bytes.now 11) }
 {
     Ctl::decode(table::part(bytes, 174, 87))
 }
 
-#[unsafe(no_mangle)]
-pub extern "C" fn rivertosku_joy_4(bytes: &[u8]) -> Joy
+pub fn rivertosku_joy_4(bytes: &[u8]) -> Joy
     ensures { result ≡ joy_of (numbers_of bytes.now 12) }
 {
     Joy::decode(table::part(bytes, 261, 16))
