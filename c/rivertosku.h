@@ -1,7 +1,6 @@
-/* The proved receiver of a stepper board, and the optimiser's end of its link. `rt staticlib board` and `rt staticlib optimiser` build them
-   into target/staticlib/libboard.a and liboptimiser.a, `rt staticlib same` the comparison of two boards into libsame.a and `rt staticlib
-   views` what reads the fields of a board's settings into libviews.a, for x86-64; a program links what it needs of them. Needs C11 or
-   C++11. */
+/* The proved receiver of a stepper board, and the optimiser's end of its link. tools/archives builds them into target/staticlib/libboard.a and
+   liboptimiser.a, the comparison of two boards into libsame.a and what reads the fields of a board's settings into libviews.a, for x86-64; a
+   program links what it needs of them. Needs C11 or C++11. */
 #ifndef RIVERTOSKU_H
 #define RIVERTOSKU_H
 

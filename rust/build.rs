@@ -1,4 +1,4 @@
-// Links the proved receiver, the comparison of boards, the views of a table and the optimiser's end, which `rt staticlib` builds in the folder
+// Links the proved receiver, the comparison of boards, the views of a table and the optimiser's end, which tools/archives builds in the folder
 // above.
 use std::path::Path;
 
@@ -10,7 +10,7 @@ fn main() {
         let library = folder.join(format!("lib{name}.a"));
         println!("cargo:rerun-if-changed={}", library.display());
         if !library.is_file() {
-            eprintln!("{} is missing: run `rt staticlib {name}` in the repository's root first", library.display());
+            eprintln!("{} is missing: run `bash tools/archives` in the repository's root first", library.display());
             std::process::exit(1);
         }
         println!("cargo:rustc-link-lib=static={name}");
