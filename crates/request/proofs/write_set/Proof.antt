@@ -45,12 +45,6 @@ some n h e = omega arith
 none : (n : ℕ) → n ≤ 0 → n ≡ 0
 none n h = omega arith
 
-returns : tie.Need-returns-then-bad-gt0
-returns c =
-    let b = c.before in
-    let a = b.before.before.args in
-    says_out_of_range (first_bad_of a.set) (set_frame a.set) a.out.now (λ z. some _ c.if-bad-gt0.true (b.first_bad-bad.ensures ∙ z))
-
 returns_2 : tie.Need-returns-then-out-total
 returns_2 c =
     let h = c.before in
@@ -58,7 +52,7 @@ returns_2 c =
     let i = k.before in
     let b = i.before in
     let a = b.before.before.args in
-    says_too_short (first_bad_of a.set) (set_frame a.set) a.out.now (sym b.first_bad-bad.ensures ∙ none _ i.if-bad-gt0.false)
+    says_too_short (first_bad_of a.set) (set_frame a.set) a.out.now (sym b.first_bad-bad.ensures ∙ none b.first_bad-bad.result (omega arith))
     (omega (arith, c.if-out-total.true, set_length a.set, total_is a.set k.block_of.result k.block_of.ensures h.head_of-head.result h.head_of-head.ensures))
 
 sub_n : tie.Need-overflow_sub-n
@@ -93,7 +87,7 @@ returns_3 c =
     let a = b.before.before.args in
     let f = a.set in
     let total_of = total_is f k.block_of.result k.block_of.ensures h.head_of-head.result h.head_of-head.ensures in
-    says_frame (first_bad_of f) (set_frame f) a.out.now h.head_of-head.result.total _ (sym b.first_bad-bad.ensures ∙ none _ i.if-bad-gt0.false)
+    says_frame (first_bad_of f) (set_frame f) a.out.now h.head_of-head.result.total _ (sym b.first_bad-bad.ensures ∙ none b.first_bad-bad.result (omega arith))
     (omega (arith, t.if-out-total.false, set_length f, total_of)) (total_of ∙ sym (set_length f))
     (p.put.ensures ∙ ap (sets a.out.now 0) (framed_is f k.block_of.result k.block_of.ensures h.head_of-head.result h.head_of-head.ensures _ _ refl e.encode.ensures))
 
@@ -102,7 +96,9 @@ write_set_spec =
     tie.close
     (tie.spec
     (λ c κs. search rules)
-    returns
+    (λ c.
+    let bad = c.first_bad-bad in
+    says_out_of_range (first_bad_of c.args.set) (set_frame c.args.set) c.args.out.now (λ z. some bad.result (omega arith) (bad.ensures ∙ z)))
     (λ c κs. search rules)
     (λ c κs. search rules)
     returns_2

@@ -3,6 +3,7 @@ use Prim.Native.Nat.{ℕ}
 use mathlib.Core.Path.{◌≡◌, ap, sym, ◌∙◌}
 use mathlib.Core.Bool.{Bool, true, false, cond}
 use lib.Dec.{eqb}
+use native.Mathlib.Omega.{arith}
 use borrow.Author.Rules.{rules}
 use borrow.Author.Tests.{eq-eqb, ne_eqb}
 use Rattle.state.specs.declared.Verdict.{Verdict}
@@ -34,13 +35,13 @@ rivertosku_same_4_spec =
     (λ c. refused _ (number c.before.before.judge-one.ensures) c.if-one-ne0.true)
     (λ c κs. search rules)
     (λ c. let one = c.before.before.before in
-    heard (number one.before.before.judge-one.ensures) one.if-one-ne0.false (refused _ (number c.before.before.judge-two.ensures) c.if-two-ne0.true))
+    heard (number one.before.before.judge-one.ensures) one.if-one-ne0.false (refused _ (number c.judge-two.ensures) (omega arith)))
     (λ c κs. search rules)
     (λ c. let two = c.before.before in
     let one = two.before.before.before in
     heard (number one.before.before.judge-one.ensures) one.if-one-ne0.false
-    (heard (number two.before.before.judge-two.ensures) two.if-two-ne0.false (same (sym c.before.boards.ensures ∙ c.if-boards.true))))
+    (heard (number c.judge-two.ensures) (omega arith) (same (sym c.before.boards.ensures ∙ c.if-boards.true))))
     (λ c. let two = c.before.before in
     let one = two.before.before.before in
     heard (number one.before.before.judge-one.ensures) one.if-one-ne0.false
-    (heard (number two.before.before.judge-two.ensures) two.if-two-ne0.false (other (sym c.before.boards.ensures ∙ c.if-boards.false)))))
+    (heard (number c.judge-two.ensures) (omega arith) (other (sym c.before.boards.ensures ∙ c.if-boards.false)))))

@@ -3,6 +3,7 @@ use mathlib.Core.Path.{◌≡◌, sym, ap, ◌∙◌}
 use mathlib.Core.Bool.{true, false}
 use Prim.Native.Nat.{ℕ}
 use lib.Dec.{eqb}
+use native.Mathlib.Omega.{arith}
 use borrow.Author.Rules.{rules}
 use borrow.Author.Tests.{eq-eqb, ne_eqb}
 use Rattle.state.specs.Parts.{board_at}
@@ -41,28 +42,16 @@ sound c =
     let begun = flags.before.before in
     let is = begun.before.wanted-wants.ensures in
     ap passed is
-    ∙ said begun.before _ (judged_sound (board (start begun.before)) (λ z. begun.if-wants-ne0.true (is ∙ z)) flags.if-rest-le7.true
-    (good place.before.first_bad.ensures place.if-first_bad-eq0.true) (sym c.before.is_sound.ensures ∙ c.if-is_sound.true))
+    ∙ said begun.before _ (judged_sound (board (start begun.before)) (λ z. begun.if-wants-ne0.true (is ∙ z)) (omega arith)
+    (good c.first_bad.ensures (omega arith)) (sym c.before.is_sound.ensures ∙ c.if-is_sound.true))
 
 settings : tie.Need-returns-else-is_sound
 settings c =
     let place = c.before.before.before in
     let flags = place.before.before.before in
     let begun = flags.before.before in
-    said begun.before _ (judged_settings (board (start begun.before)) (λ z. begun.if-wants-ne0.true (begun.before.wanted-wants.ensures ∙ z)) flags.if-rest-le7.true
-    (good place.before.first_bad.ensures place.if-first_bad-eq0.true) (sym c.before.is_sound.ensures ∙ c.if-is_sound.false))
-
-position : tie.Need-returns-else-first_bad-eq0
-position c =
-    let flags = c.before.before.before in
-    let begun = flags.before.before in
-    said begun.before _ (judged_position (board (start begun.before)) (λ z. begun.if-wants-ne0.true (begun.before.wanted-wants.ensures ∙ z)) flags.if-rest-le7.true
-    (wrong c.before.first_bad.ensures c.if-first_bad-eq0.false))
-
-flags : tie.Need-returns-else-rest-le7
-flags c =
-    let begun = c.before.before in
-    said begun.before _ (judged_flags (board (start begun.before)) (λ z. begun.if-wants-ne0.true (begun.before.wanted-wants.ensures ∙ z)) c.if-rest-le7.false)
+    said begun.before _ (judged_settings (board (start begun.before)) (λ z. begun.if-wants-ne0.true (begun.before.wanted-wants.ensures ∙ z)) (omega arith)
+    (good c.first_bad.ensures (omega arith)) (sym c.before.is_sound.ensures ∙ c.if-is_sound.false))
 
 unbegun : tie.Need-returns-else-wants-ne0
 unbegun c = said c.before _ (judged_unbegun (board (start c.before)) (sym c.before.wanted-wants.ensures ∙ c.if-wants-ne0.false))
@@ -71,4 +60,20 @@ other : tie.Need-returns-else-held-eq-FRAME
 other c = let a = c.before.before.args in sym (verdict_other a.table.now a.held.now a.rest c.if-held-eq-FRAME.false)
 
 pub judge_parts_spec : {M : Type 1} → statement M
-judge_parts_spec = tie.close (tie.spec (λ c κs. search rules) (λ c κs. search rules) (λ c κs. search rules) sound settings position flags unbegun other)
+judge_parts_spec = 
+    tie.close
+    (tie.spec
+    (λ c κs. search rules)
+    (λ c κs. search rules)
+    (λ c κs. search rules)
+    sound
+    settings
+    (λ c.
+    let begun = c.before.before.before.before.before in
+    said begun.before _ (judged_position (board (start begun.before)) (λ z. begun.if-wants-ne0.true (begun.before.wanted-wants.ensures ∙ z)) (omega arith)
+    (wrong c.first_bad.ensures (omega arith))))
+    (λ c.
+    let begun = c.before.before in
+    said begun.before _ (judged_flags (board (start begun.before)) (λ z. begun.if-wants-ne0.true (begun.before.wanted-wants.ensures ∙ z)) (omega arith)))
+    unbegun
+    other)
