@@ -1,5 +1,5 @@
 // Whether two boards are the same: in what they keep, and not in the bytes of their structs, whose gaps are anything. For C and Rust, in an archive of
-// its own: with a second caller of what a call needs, the compiler would make other code of the call.
+// its own (same_c): with a second caller of what a call needs, the compiler would make other code of the call.
 #![tactic(auto)]
 
 ghost use Rattle.std.specs.Prelude.{◌≡◌};
@@ -63,8 +63,7 @@ fn boards(a: Board, b: Board) -> bool
 
 // 3 where one of them is not sound, else 0 where two boards are the same, and 1 where they are not. The name ends in the layout's number, as the
 // board's functions have it.
-#[unsafe(no_mangle)]
-pub extern "C" fn rivertosku_same_4(a: Board, b: Board) -> u8
+pub fn rivertosku_same_4(a: Board, b: Board) -> u8
     ensures { result ≡ compared_as a b }
 {
     let one = state::judge(a);
