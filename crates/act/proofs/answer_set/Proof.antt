@@ -17,26 +17,14 @@ use Rattle.unit.proofs.Sets.{answered_as, section_is, says_damaged, says_refused
 use Rattle.act.proofs.answer_set.Statement.{statement}
 use Rattle.act.proofs.answer_set.Tie as tie
 
-returns : tie.Need-returns-then-not-is_intact
-unfolding puts
-returns c =
-    let said = c.before.before in
-    let test = said.before.before in
-    let a = test.before.before.before.before.args in
-    says_damaged (memory_at a.table.now a.slate) a.unit.now a.k _ _ (sym test.before.is_intact.ensures ∙ test.if-not-is_intact.true) (said.refuse_crc.ensures a.table.now)
-
--- past the first test the unit is intact, so it has a name and a CRC
-long : (c : tie.Else-not-is_intact) → 6 ≤ length c.before.before.before.before.args.unit.now
-long c = intact_long c.before.before.before.before.args.unit.now (sym c.before.is_intact.ensures ∙ c.if-not-is_intact.false)
-
 sub_end : tie.Need-overflow_sub-end
-sub_end c = omega (arith, long c)
+sub_end c = omega (arith, intact_long c.args.unit.now (cc))
 
 sub_section : tie.Need-slice_bounds-section-count
-sub_section c = omega (arith, long c)
+sub_section c = omega (arith, intact_long c.args.unit.now (cc))
 
 part_section_start : tie.Need-slice_bounds-section-start
-part_section_start c = omega (arith, long c)
+part_section_start c = omega (arith, intact_long c.args.unit.now (cc))
 
 -- the fields tested are those of the unit's data section
 tested : (c : tie.After-bad_in-bad) → let a = c.before.before.before.before.before.before.args in c.bad_in-bad.result ≡ bad_in (row_at a.k) (data_in a.unit.now)
@@ -50,7 +38,7 @@ returns_2 c =
     let test = bad.before.before in
     let a = test.before.before.before.before.args in
     says_refused (memory_at a.table.now a.slate) a.unit.now a.k _ _ bad.bad_in-bad.result (tested bad)
-    (sym test.before.is_intact.ensures ∙ test.if-not-is_intact.false) said.before.before.if-bad-ne0.true (said.refuse_field.ensures a.table.now)
+    (cc) said.before.before.if-bad-ne0.true (said.refuse_field.ensures a.table.now)
 
 returns_3 : tie.Need-returns
 unfolding puts
@@ -62,7 +50,7 @@ returns_3 c =
     let a = test.before.before.before.before.args in
     answered_as (ap (outcome_at _) c.quiet.ensures)
     (says_done (memory_at a.table.now a.slate) a.unit.now a.k _ _ bad.bad_in-bad.result (tested bad)
-    (sym test.before.is_intact.ensures ∙ test.if-not-is_intact.false) said.before.before.if-bad-ne0.false
+    (cc) said.before.before.if-bad-ne0.false
     (record {
       result =
           ap (λ (t : List ℕ). outcome_at t (record { order = Nothing; slate = a.slate })) (put.put.ensures ∙ ap (put_in sheet a.table.now a.k) (section_is a.unit.now));
@@ -76,7 +64,9 @@ answer_set_spec =
     (λ c κs. search rules)
     (λ c κs. search rules)
     (λ c. search rules)
-    returns
+    (λ c.
+    unfold puts in
+    says_damaged (memory_at c.args.table.now c.args.slate) c.args.unit.now c.args.k _ _ (cc) (c.refuse_crc.ensures c.args.table.now))
     sub_end
     sub_section
     part_section_start
