@@ -1,3 +1,4 @@
+pub mod AtOnce
 pub mod Laws
 pub mod One
 pub mod Parity

@@ -7,7 +7,7 @@ use native.Mathlib.Omega.{arith}
 use lib.Arith.{bin_ind}
 use lib.Bits.{bit_xor, xor_add_and, xor_shr, xor_shifted, xor_zero_r}
 use lib.Count.{ones_in, ones}
-use lib.Dec.{T, eqb, eqb→eq}
+use lib.Dec.{T, eqb}
 use lib.Pow.{split}
 use Rattle.crc.specs.Crc.{crc_bit, crc_bits, crc_byte}
 
@@ -61,7 +61,7 @@ bits_over (suc n) a x =
     ∙ ap crc_bit (bits_over n (a * 2) x)
     ∙ bit_over a (crc_bits n x)
 
-byte_over : (r b : ℕ) → b < 256 → crc_byte r b ≡ bit_xor (r / 256) (crc_bits 8 (bit_xor r b % 256))
+pub byte_over : (r b : ℕ) → b < 256 → crc_byte r b ≡ bit_xor (r / 256) (crc_bits 8 (bit_xor r b % 256))
 unfolding crc_byte
 byte_over r b h =
     let x = bit_xor r b % 256 in
@@ -83,12 +83,12 @@ marked_over : (x high : ℕ) → marked x high ≡ bit_xor high (marked x 0)
 unfolding marked
 marked_over x high = ap (marked x) (sym (xor_zero_r high)) ∙ xor_out (eqb (ones x % 2) 1) high 0 _
 
-at_once_over : (high x : ℕ) → at_once high x ≡ bit_xor high (at_once 0 x)
+pub at_once_over : (high x : ℕ) → at_once high x ≡ bit_xor high (at_once 0 x)
 unfolding at_once
 at_once_over high x = rw (marked_over x high) (xor_assoc₃ high _ _ _)
 
 -- the test of every number below n
-abbrev every : (ℕ → Bool) → ℕ → Bool
+abbrev pub every : (ℕ → Bool) → ℕ → Bool
 every test zero = true
 every test (suc n) = cond (test zero) (every (λ x. test (suc x)) n) false
 
@@ -101,25 +101,18 @@ rest true b t = t
 rest false b t = absurd t
 
 -- where it passes, each of them does
-each : (test : ℕ → Bool) (n : ℕ) → T (every test n) → (x : ℕ) → x < n → T (test x)
+pub each : (test : ℕ → Bool) (n : ℕ) → T (every test n) → (x : ℕ) → x < n → T (test x)
 each test zero t x h = absurd (not-suc-le-zero h)
 each test (suc n) t zero h = first (test zero) (every (λ x. test (suc x)) n) t
 each test (suc n) t (suc x) h = each (λ x. test (suc x)) n (rest (test zero) (every (λ x. test (suc x)) n) t) x (le_of_suc-le-suc h)
 
 -- at all 256 values of x: antt computes both sides
-abbrev agrees : ℕ → Bool
+abbrev pub agrees : ℕ → Bool
 agrees x = eqb (crc_bits 8 x) (at_once 0 x)
 
-computed : T (every agrees 256)
+pub computed : T (every agrees 256)
 unfolding crc_bits crc_bit at_once marked ones ones_in
 computed = tt
-
--- for every register and every byte
-pub byte_at_once : (r b : ℕ) → b < 256 → at_once (r / 256) (bit_xor r b % 256) ≡ crc_byte r b
-byte_at_once r b h =
-    let x = bit_xor r b % 256 in
-    let same : crc_bits 8 x ≡ at_once 0 x = eqb→eq _ _ (each agrees 256 computed x (omega arith)) in
-    at_once_over (r / 256) x ∙ ap (bit_xor (r / 256)) (sym same) ∙ sym (byte_over r b h)
 
 -- the parity is of x: that of the data byte, even here, would give 0x00C0
 of_x : crc_byte 1 0 ≡ 0xC0C1
