@@ -47,11 +47,6 @@ returns c =
     let a = c.args in
     cut a.block c.head_of-head.result c.head_of-head.ensures a.bytes.now c.if-bytes-total.true
 
-returns_2 : tie.Need-returns-then-not-is_intact
-returns_2 c =
-    let a = c.args in
-    damaged a.block c.head_of-head.result c.head_of-head.ensures a.bytes.now c.if-bytes-total.false (sym c.is_intact.ensures ∙ c.if-not-is_intact.true)
-
 sub_end : tie.Need-overflow_sub-end
 sub_end c = omega (arith, head_long c.args.block c.head_of-head.result c.head_of-head.ensures)
 
@@ -61,10 +56,11 @@ sub_decode c = omega (arith, head_long c.args.block c.head_of-head.result c.head
 part_decode_start : tie.Need-slice_bounds-decode-start
 part_decode_start c = omega (arith, head_long c.args.block c.head_of-head.result c.head_of-head.ensures, c.if-bytes-total.false)
 
-returns_3 : tie.Need-returns
-returns_3 c =
+returns_2 : tie.Need-returns
+returns_2 c =
     let a = c.args in
-    taken a.block c.head_of-head.result c.head_of-head.ensures a.bytes.now c.if-bytes-total.false (sym c.is_intact.ensures ∙ c.if-not-is_intact.false) c.decode.result c.decode.ensures
+    let on : c.is_intact.result ≡ true = cc in
+    taken a.block c.head_of-head.result c.head_of-head.ensures a.bytes.now c.if-bytes-total.false (sym c.is_intact.ensures ∙ on) c.decode.result c.decode.ensures
 
 pub read_data_spec : {M : Type 1} → statement M
 read_data_spec =
@@ -74,10 +70,13 @@ read_data_spec =
     returns
     (λ c. sym (length-take-le _ _ c.if-bytes-total.false))
     (λ c κs. search rules)
-    returns_2
+    (λ c.
+    let a = c.args in
+    let off : c.is_intact.result ≡ false = cc in
+    damaged a.block c.head_of-head.result c.head_of-head.ensures a.bytes.now c.if-bytes-total.false (sym c.is_intact.ensures ∙ off))
     sub_end
     sub_decode
     part_decode_start
     (λ c. search rules)
     (λ c κs. search rules)
-    returns_3)
+    returns_2)

@@ -1,5 +1,5 @@
 -- `clock::report_time` meets its contract: the refusal, then the cases in which nothing changes. Assumes nothing.
-use Rattle.std.proofs.Common.{◌≡◌, length, sym, ap, ◌∙◌, rules}
+use Rattle.std.proofs.Common.{◌≡◌, length, sym, ap, ◌∙◌, arith, rules}
 use Rattle.sheet.specs.Lengths.{longest_frame}
 use Rattle.state.specs.declared.Board.{Board}
 use Rattle.state.specs.declared.Verdict.{Verdict}
@@ -30,7 +30,7 @@ drops c =
     let b = s.args.board in
     let now = s.args.now in
     let f : length b.held ≡ longest_frame = search (rules, s.well_formed.0.1.1.1.0.1.0) in
-    ap heard (c.idle-next.ensures ∙ sym (overdue_drops b now some.if-board-gt0.true f (sym late.is_late.ensures ∙ c.before.before.if-is_late.true)))
+    ap heard (c.idle-next.ensures ∙ sym (overdue_drops b now (omega arith) f (sym late.is_late.ensures ∙ c.before.before.if-is_late.true)))
     ∙ sym (report_heard b now (sym (number_of sound.before.judge-verdict.ensures) ∙ sound.if-number-ne0.false))
 
 in_time_lem : tie.Need-returns-else-is_late
@@ -41,11 +41,17 @@ in_time_lem c =
     ap heard (sym (early_stays a.board a.now (sym late.is_late.ensures ∙ c.if-is_late.false)))
     ∙ sym (report_heard a.board a.now (sym (number_of sound.before.judge-verdict.ensures) ∙ sound.if-number-ne0.false))
 
-idle : tie.Need-returns-else-board-gt0
-idle c =
+pub report_time_spec : {M : Type 1} → statement M
+report_time_spec =
+    tie.close
+    (tie.spec
+    (λ c κs. search rules)
+    refused
+    (λ c κs. search rules)
+    (λ c κs. search rules)
+    drops
+    in_time_lem
+    (λ c.
     let sound = c.before.before in
     let a = sound.before.before.args in
-    ap heard (sym (idle_stays a.board a.now c.if-board-gt0.false)) ∙ sym (report_heard a.board a.now (sym (number_of sound.before.judge-verdict.ensures) ∙ sound.if-number-ne0.false))
-
-pub report_time_spec : {M : Type 1} → statement M
-report_time_spec = tie.close (tie.spec (λ c κs. search rules) refused (λ c κs. search rules) (λ c κs. search rules) drops in_time_lem idle)
+    ap heard (sym (idle_stays a.board a.now (omega arith))) ∙ sym (report_heard a.board a.now (sym (number_of sound.before.judge-verdict.ensures) ∙ sound.if-number-ne0.false))))

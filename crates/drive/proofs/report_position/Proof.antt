@@ -1,5 +1,5 @@
 -- `drive::report_position` meets its contract: 3, then 5, then the position. Assumes nothing.
-use mathlib.Core.Path.{◌≡◌, ap, sym, ◌∙◌}
+use Rattle.std.proofs.Common.{◌≡◌, ◌≢◌, ap, sym, ◌∙◌, arith}
 use borrow.Author.Rules.{rules}
 use borrow.Author.Tests.{eq-eqb, ne_eqb}
 use Rattle.state.specs.declared.Board.{Board}
@@ -18,23 +18,30 @@ refused c =
     let other : c.before.judge-verdict.result.number ≡ 0 → ⊥ = c.if-number-ne0.true in
     ap (λ n. record { number = n; board = a.board }) is ∙ sym (report_refused a.board a.position (λ z. other (is ∙ z)))
 
-outside : tie.Need-returns-then-first_bad-ne0
-outside c =
-    let bad = c.before in
-    let sound = bad.before in
-    let a = sound.before.before.args in
-    sym (report_outside a.board a.position (sym (number_of sound.before.judge-verdict.ensures) ∙ sound.if-number-ne0.false)
-    (ne_eqb _ 0 (λ z. c.if-first_bad-ne0.true (bad.first_bad.ensures ∙ z))))
-
 placed : tie.Need-returns
 placed c =
     let test = c.before in
     let bad = test.before in
     let sound = bad.before in
     let a = sound.before.before.args in
+    let none : bad.first_bad.result ≡ 0 = omega arith in
     ap (λ (b : Board). record { number = 0; board = b }) c.placed-next.ensures
     ∙ sym (report_placed a.board a.position (sym (number_of sound.before.judge-verdict.ensures) ∙ sound.if-number-ne0.false)
-    (eq-eqb _ 0 (sym bad.first_bad.ensures ∙ test.if-first_bad-ne0.false)))
+    (eq-eqb _ 0 (sym bad.first_bad.ensures ∙ none)))
 
 pub report_position_spec : {M : Type 1} → statement M
-report_position_spec = tie.close (tie.spec (λ c κs. search rules) refused (λ c κs. search rules) outside (λ c κs. search rules) placed)
+report_position_spec =
+    tie.close
+    (tie.spec
+    (λ c κs. search rules)
+    refused
+    (λ c κs. search rules)
+    (λ c.
+    let bad = c.before in
+    let sound = bad.before in
+    let a = sound.before.before.args in
+    let some : bad.first_bad.result ≢ 0 = omega arith in
+    sym (report_outside a.board a.position (sym (number_of sound.before.judge-verdict.ensures) ∙ sound.if-number-ne0.false)
+    (ne_eqb _ 0 (λ z. some (bad.first_bad.ensures ∙ z)))))
+    (λ c κs. search rules)
+    placed)

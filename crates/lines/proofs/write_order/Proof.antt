@@ -1,5 +1,5 @@
 -- `lines::write_order` meets its contract. Assumes nothing.
-use mathlib.Core.Path.{◌≡◌}
+use Rattle.std.proofs.Common.{◌≡◌, arith}
 use borrow.Author.Rules.{rules}
 use Rattle.position.specs.declared.Travel.{Travel}
 use Rattle.orders.specs.Orders.{order_travel}
@@ -8,25 +8,17 @@ use Rattle.lines.proofs.Lines.{bare_order, travel_order}
 use Rattle.lines.proofs.write_order.Statement.{statement}
 use Rattle.lines.proofs.write_order.Tie as tie
 
-returns : tie.Need-returns-then-number-lt8
+returns : tie.Need-returns
 returns c =
-    let digits = c.before.before.before in
-    let number = digits.before.before.order_number-number in
-    let a = digits.before.before.before.before.args in
-    rw (bare_order a.order number.result number.ensures c.if-number-lt8.true) digits.write_decimal-last.ensures
-
-returns_2 : tie.Need-returns
-returns_2 c =
     let travel = c.before.before in
     let microsteps = travel.before.before in
     let steps = microsteps.before in
-    let test = steps.before in
-    let digits = test.before.before.before in
+    let digits = steps.before.before.before.before in
     let number = digits.before.before.order_number-number in
     let a = digits.before.before.before.before.args in
     let same : ◌≡◌ {A = Travel} (record { steps = steps.order_steps.result; microsteps = microsteps.order_microsteps.result }) (order_travel a.order) =
     λ i. record { steps = steps.order_steps.ensures i; microsteps = microsteps.order_microsteps.ensures i } in
-    rw (travel_order a.order number.result number.ensures test.if-number-lt8.false, ← same)
+    rw (travel_order a.order number.result number.ensures (omega arith), ← same)
     (then digits.write_decimal-last.ensures travel.write_travel.ensures)
 
 pub write_order_spec : {M : Type 1} → statement M
@@ -37,9 +29,13 @@ write_order_spec =
     (λ c. search rules)
     (λ c κs. search rules)
     (λ c. search rules)
-    returns
+    (λ c.
+    let digits = c.before.before.before in
+    let number = digits.before.before.order_number-number in
+    let a = digits.before.before.before.before.args in
+    rw (bare_order a.order number.result number.ensures (omega arith)) digits.write_decimal-last.ensures)
     (λ c κs. search rules)
     (λ c κs. search rules)
     (λ c κs. search rules)
     (λ c. search rules)
-    returns_2)
+    returns)
