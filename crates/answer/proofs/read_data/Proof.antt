@@ -59,7 +59,7 @@ part_decode_start c = omega (arith, head_long c.args.block c.head_of-head.result
 returns_2 : tie.Need-returns
 returns_2 c =
     let a = c.args in
-    let on : c.is_intact.result ≡ true = cc in
+    let on : c.is_intact.result ≡ true = search rules in
     taken a.block c.head_of-head.result c.head_of-head.ensures a.bytes.now c.if-bytes-total.false (sym c.is_intact.ensures ∙ on) c.decode.result c.decode.ensures
 
 pub read_data_spec : {M : Type 1} → statement M
@@ -72,7 +72,7 @@ read_data_spec =
     (λ c κs. search rules)
     (λ c.
     let a = c.args in
-    let off : c.is_intact.result ≡ false = cc in
+    let off : c.is_intact.result ≡ false = search rules in
     damaged a.block c.head_of-head.result c.head_of-head.ensures a.bytes.now c.if-bytes-total.false (sym c.is_intact.ensures ∙ off))
     sub_end
     sub_decode
