@@ -18,13 +18,13 @@ use Rattle.act.proofs.answer_set.Statement.{statement}
 use Rattle.act.proofs.answer_set.Tie as tie
 
 sub_end : tie.Need-overflow_sub-end
-sub_end c = omega (arith, intact_long c.args.unit.now (cc))
+sub_end c = omega (arith, intact_long c.args.unit.now (sym c.is_intact.ensures ∙ search rules))
 
 sub_section : tie.Need-slice_bounds-section-count
-sub_section c = omega (arith, intact_long c.args.unit.now (cc))
+sub_section c = omega (arith, intact_long c.args.unit.now (sym c.is_intact.ensures ∙ search rules))
 
 part_section_start : tie.Need-slice_bounds-section-start
-part_section_start c = omega (arith, intact_long c.args.unit.now (cc))
+part_section_start c = omega (arith, intact_long c.args.unit.now (sym c.is_intact.ensures ∙ search rules))
 
 -- the fields tested are those of the unit's data section
 tested : (c : tie.After-bad_in-bad) → let a = c.before.before.before.before.before.before.args in c.bad_in-bad.result ≡ bad_in (row_at a.k) (data_in a.unit.now)
@@ -38,7 +38,7 @@ returns_2 c =
     let test = bad.before.before in
     let a = test.before.before.before.before.args in
     says_refused (memory_at a.table.now a.slate) a.unit.now a.k _ _ bad.bad_in-bad.result (tested bad)
-    (cc) said.before.before.if-bad-ne0.true (said.refuse_field.ensures a.table.now)
+    (sym c.is_intact.ensures ∙ search rules) said.before.before.if-bad-ne0.true (said.refuse_field.ensures a.table.now)
 
 returns_3 : tie.Need-returns
 unfolding puts
@@ -50,7 +50,7 @@ returns_3 c =
     let a = test.before.before.before.before.args in
     answered_as (ap (outcome_at _) c.quiet.ensures)
     (says_done (memory_at a.table.now a.slate) a.unit.now a.k _ _ bad.bad_in-bad.result (tested bad)
-    (cc) said.before.before.if-bad-ne0.false
+    (sym c.is_intact.ensures ∙ search rules) said.before.before.if-bad-ne0.false
     (record {
       result =
           ap (λ (t : List ℕ). outcome_at t (record { order = Nothing; slate = a.slate })) (put.put.ensures ∙ ap (put_in sheet a.table.now a.k) (section_is a.unit.now));
@@ -66,7 +66,7 @@ answer_set_spec =
     (λ c. search rules)
     (λ c.
     unfold puts in
-    says_damaged (memory_at c.args.table.now c.args.slate) c.args.unit.now c.args.k _ _ (cc) (c.refuse_crc.ensures c.args.table.now))
+    says_damaged (memory_at c.args.table.now c.args.slate) c.args.unit.now c.args.k _ _ (sym c.is_intact.ensures ∙ search rules) (c.refuse_crc.ensures c.args.table.now))
     sub_end
     sub_section
     part_section_start

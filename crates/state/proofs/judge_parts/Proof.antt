@@ -60,7 +60,7 @@ other : tie.Need-returns-else-held-eq-FRAME
 other c = let a = c.before.before.args in sym (verdict_other a.table.now a.held.now a.rest c.if-held-eq-FRAME.false)
 
 pub judge_parts_spec : {M : Type 1} → statement M
-judge_parts_spec = 
+judge_parts_spec =
     tie.close
     (tie.spec
     (λ c κs. search rules)
