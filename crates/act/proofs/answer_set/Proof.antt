@@ -1,9 +1,8 @@
 -- `act::answer_set` meets its contract: the CRC first, then the fields. Assumes nothing.
 use mathlib.Core.Path.{◌≡◌, sym, ap, ◌∙◌}
 use mathlib.Core.List.{List}
-use Prim.Native.Nat.{ℕ, ◌≤◌}
+use Prim.Native.Nat.{ℕ}
 use native.Mathlib.Omega.{arith}
-use lib.ListN.{length}
 use borrow.Author.Rules.{rules}
 use Rattle.frame.specs.Frame.{data_in}
 use Rattle.frame.proofs.Frames.{intact_long}
