@@ -5,8 +5,9 @@ ghost use Rattle.unit.specs.Unit.{puts, gets, does, memory_at, outcome_at, Judge
 
 use names::Kind;
 use unit::{Judged, Slate};
+use wire::Number;
 
-// A get's answer. The data section is laid out aside, so that its CRC is taken of what is sent.
+// A get's answer. The data section is laid out aside, so that its CRC is taken of what is sent: in a buffer of the longest, as there is no heap.
 fn answer_get(
     table: &[u8; table::SIZE],
     slate: Slate,
@@ -18,9 +19,9 @@ fn answer_get(
 {
     let mut section = [0u8; sheet::FRAME];
     table::get(table, k, &mut section);
-    let n = names::get_total(k) - 6;
+    let n = names::total_of(k) - 6;
     frame::put(reply, name, &section[..n]);
-    unit::quiet(slate)
+    slate.quiet()
 }
 
 // A set's answer: the CRC first, then the fields; stored whole or not at all.
@@ -33,18 +34,15 @@ fn answer_set(
 ) -> Judged
     ensures { Judges (puts (memory_at table.old slate) k unit.now) reply.old (outcome_at table.new result) reply.new }
 {
-    if !frame::is_intact(unit) {
-        return unit::refuse_crc(slate, reply);
-    }
-    let end = unit.len() - 2;
-    let section = &unit[4..end];
-    let bad = table::bad_in(k, section);
-    if bad != 0 {
-        return unit::refuse_field(slate, k, bad, reply);
+    let Some(section) = frame::section(unit) else {
+        return slate.refuse_crc(reply);
+    };
+    if let Some(bad) = table::bad_in(k, section) {
+        return slate.refuse_field(k, bad, reply);
     }
     unit::echo(unit, reply);
     table::put(table, k, section);
-    unit::quiet(slate)
+    slate.quiet()
 }
 
 // The answer to a whole unit, of the kind that its first bytes say: the caller has looked it up. The table is changed where it stands.
@@ -60,35 +58,21 @@ pub fn answer(
     match kind {
         Kind::Zero => {
             wire::put(reply, 0, 1, 0);
-            return unit::quiet(slate);
+            slate.quiet()
         }
-        Kind::Set(k) => {
-            return answer_set(table, slate, k, unit, reply);
-        }
-        Kind::Get(k) => {
-            let name = wire::u32_at(unit, 0);
-            return answer_get(table, slate, name, k, reply);
-        }
+        Kind::Set(k) => answer_set(table, slate, k, unit, reply),
+        Kind::Get(k) => answer_get(table, slate, u32::read(unit, 0), k, reply),
         Kind::Gives(order) => {
             unit::echo(unit, reply);
-            return Judged { order, slate };
+            Judged { order, slate }
         }
-        Kind::Moves(k) => {
-            return travel::moves::answer_move(slate, k, unit, reply);
-        }
-        Kind::Places => {
-            return travel::places::answer_spos(slate, unit, reply);
-        }
-        Kind::Finds => {
-            let name = wire::u32_at(unit, 0);
-            return travel::places::answer_gpos(slate, name, reply);
-        }
-        Kind::Clears => {
-            return travel::places::answer_zero(slate, unit, reply);
-        }
+        Kind::Moves(k) => travel::moves::answer_move(slate, k, unit, reply),
+        Kind::Places => travel::places::answer_spos(slate, unit, reply),
+        Kind::Finds => travel::places::answer_gpos(slate, u32::read(unit, 0), reply),
+        Kind::Clears => travel::places::answer_zero(slate, unit, reply),
         Kind::Unknown => {
             wire::put(reply, 0, 4, sheet::names::ERRC as u64);
-            return unit::quiet(unit::flagged(slate, 1));
+            slate.flagged(1).quiet()
         }
     }
 }

@@ -1,4 +1,5 @@
 -- What the reader makes of each answer that a board can send, whatever stands behind it. In quotation marks: sheet 02, P1. Assumes nothing.
+use Rattle.std.specs.Prelude.{Option, Some, None}
 use mathlib.Core.Path.{◌≡◌, refl, ap, ◌∙◌}
 use mathlib.Core.List.{List, ◌++◌}
 use Prim.Native.Nat.{ℕ, ◌≤◌}
@@ -17,13 +18,11 @@ use Rattle.fields.specs.Fields.{block_of, Typed, fields_in, section_of}
 use Rattle.answer.specs.Answer.{answer_of, error_answer, order_answer, lettered_answer, data_else, first_answer}
 use Rattle.host.specs.declared.Block.{Block}
 use Rattle.host.specs.declared.Block.TheVariants.{Mov, Eng, Pwr, Eds, Hom, Brk, Pid}
-use Rattle.host.specs.declared.FoundBlock.{FoundBlock}
-use Rattle.host.specs.declared.FoundBlock.TheVariants as block
 use Rattle.host.specs.declared.Order.{Order}
 use Rattle.host.specs.declared.Order.TheVariants.{Stop, Sstp, Pwof, Left, Rigt, Home, Loft}
 use Rattle.fields.specs.declared.Fields.{Fields}
 use Rattle.answer.specs.declared.Answer.TheVariants.{SetEcho, OrderEcho, Data, Errc, Errd, Errv}
-use Rattle.host.proofs.Numbered.{Plain, set_plain, get_plain, order_plain}
+use Rattle.host.proofs.Numbered.{Plain, plain, set_plain, get_plain, order_plain}
 use Rattle.host.proofs.Totals.{total_least}
 use Rattle.fields.proofs.Sections.{section_length, section_low, section_back}
 use Rattle.answer.proofs.Ways.{first_named, named_as, data_taken}
@@ -31,7 +30,7 @@ use Rattle.answer.proofs.Ways.{first_named, named_as, data_taken}
 -- ---- four letters
 
 -- a name that is not a block's get name
-letters : (n : ℕ) (rest : List ℕ) → Plain n → block_at (get_named n) ≡ block.Nobody → first_answer (le_bytes 4 n ++ rest) ≡ lettered_answer n
+letters : (n : ℕ) (rest : List ℕ) → Plain n → block_at (get_named n) ≡ None → first_answer (le_bytes 4 n ++ rest) ≡ lettered_answer n
 unfolding le_bytes
 letters n rest p none =
     let s = le_bytes 4 n ++ rest in
@@ -39,7 +38,7 @@ letters n rest p none =
     let long : 4 ≤ length s = omega (arith, length-append (le_bytes 4 n) rest, length_le_bytes 4 n) in
     first_named s p.starts ∙ named_as s long
     ∙ ap (λ (k : ℕ). data_else (block_at (get_named k)) s (lettered_answer k)) is
-    ∙ ap (λ (f : FoundBlock). data_else f s (lettered_answer n)) none
+    ∙ ap (λ (f : Option Block). data_else f s (lettered_answer n)) none
 
 pub set_echoed : (b : Block) (rest : List ℕ) → first_answer (le_bytes 4 (set_of b).name ++ rest) ≡ answer_of 4 (SetEcho b)
 unfolding lettered_answer order_answer error_answer value_in
@@ -63,20 +62,20 @@ order_echoed Loft rest = letters (order_name Loft) rest (order_plain Loft) refl
 
 pub errc_read : (rest : List ℕ) → first_answer (le_bytes 4 (named "errc") ++ rest) ≡ answer_of 4 Errc
 unfolding lettered_answer order_answer error_answer value_in
-errc_read rest = letters (named "errc") rest (record { fits = omega arith; starts = λ e. omega arith }) refl
+errc_read rest = letters (named "errc") rest (plain _ tt tt) refl
 
 pub errd_read : (rest : List ℕ) → first_answer (le_bytes 4 (named "errd") ++ rest) ≡ answer_of 4 Errd
 unfolding lettered_answer order_answer error_answer value_in
-errd_read rest = letters (named "errd") rest (record { fits = omega arith; starts = λ e. omega arith }) refl
+errd_read rest = letters (named "errd") rest (plain _ tt tt) refl
 
 pub errv_read : (rest : List ℕ) → first_answer (le_bytes 4 (named "errv") ++ rest) ≡ answer_of 4 Errv
 unfolding lettered_answer order_answer error_answer value_in
-errv_read rest = letters (named "errv") rest (record { fits = omega arith; starts = λ e. omega arith }) refl
+errv_read rest = letters (named "errv") rest (plain _ tt tt) refl
 
 -- ---- data
 
 -- the get name of a block is found
-get_found : (b : Block) → block_at (get_named (get_of b).name) ≡ block.Known b
+get_found : (b : Block) → block_at (get_named (get_of b).name) ≡ Some b
 unfolding value_in
 get_found Mov = refl
 get_found Eng = refl
@@ -103,11 +102,11 @@ module _ (f : Fields) (typed : Typed f) (rest : List ℕ) where
       let s = u ++ rest in
       let all : total (row_of b) ≤ length s = omega (arith, long, length-append u rest) in
       let is : le_at 4 0 s ≡ (get_of b).name = frame_name (get_of b).name (section_of f) rest (get_plain b).fits in
-      let at : block_at (get_named (le_at 4 0 s)) ≡ block.Known b = ap (λ (k : ℕ). block_at (get_named k)) is ∙ get_found b in
+      let at : block_at (get_named (le_at 4 0 s)) ≡ Some b = ap (λ (k : ℕ). block_at (get_named k)) is ∙ get_found b in
       let whole : take (total (row_of b)) s ≡ u = take_at u rest (total (row_of b)) long in
       first_named s (get_plain b).starts
       ∙ named_as s (omega (arith, total_least b))
-      ∙ ap (λ (f : FoundBlock). data_else f s (lettered_answer (le_at 4 0 s))) at
+      ∙ ap (λ (f : Option Block). data_else f s (lettered_answer (le_at 4 0 s))) at
       ∙ data_taken s b all (rw whole (frame_intact (get_of b).name (section_of f) (section_low f)))
       ∙ ap (λ (d : List ℕ). answer_of (total (row_of b)) (Data (fields_in b d))) (ap data_in whole ∙ frame_data (get_of b).name (section_of f))
       ∙ ap (λ (x : Fields). answer_of (total (row_of b)) (Data x)) (section_back f typed)

@@ -2,10 +2,12 @@
 #![tactic(auto)]
 
 ghost use Rattle.std.specs.Prelude.{◌≡◌};
-ghost use Rattle.answer.specs.Answer.{read_as, error_answer, order_answer, lettered_answer, data_answer, first_answer};
+ghost use Rattle.answer.specs.Answer.{refusal_number, read_as, lettered_as, error_answer, lettered_answer, data_answer, first_answer};
 
 use fields::Fields;
-use host::{Block, FoundBlock, FoundOrder, Order};
+use host::{Block, Order};
+use sheet::names;
+use wire::Number;
 
 #[derive(Clone, Copy)]
 pub enum Answer {
@@ -19,100 +21,90 @@ pub enum Answer {
     Errv,
 }
 
-// An answer and its length; or 5, fewer bytes than a name needs; 6, a name that no answer has; 7, fewer bytes than that answer needs; 8, a
-// wrong CRC.
+// An answer and its length.
 #[derive(Clone, Copy)]
-pub enum Reading {
-    Took(usize, Answer),
-    NoName,
-    NoAnswer,
-    Cut,
-    Damaged,
+pub struct Reading {
+    pub size: usize,
+    pub answer: Answer,
 }
 
-// One of the three errors, or a name that no answer has.
-fn error_answer(name: u32) -> Reading
-    ensures { read_as result ≡ error_answer name }
-{
-    if name == sheet::names::ERRC {
-        return Reading::Took(4, Answer::Errc);
-    }
-    if name == sheet::names::ERRD {
-        return Reading::Took(4, Answer::Errd);
-    }
-    if name == sheet::names::ERRV {
-        return Reading::Took(4, Answer::Errv);
-    }
-    Reading::NoAnswer
+// Why no answer is read, by 02's numbers: fewer bytes than a name needs; a name that no answer has; fewer bytes than that answer needs; a
+// wrong CRC.
+#[derive(Clone, Copy, Debug, PartialEq, Eq)]
+pub enum Unread {
+    NoName = 5,
+    NoAnswer = 6,
+    Cut = 7,
+    Damaged = 8,
 }
 
-// An order's echo, or an error.
-fn order_answer(name: u32) -> Reading
-    ensures { read_as result ≡ order_answer name }
-{
-    let found = host::order_at(host::order_named(name));
-    match found {
-        FoundOrder::Known(order) => {
-            return Reading::Took(4, Answer::OrderEcho(order));
-        }
-        FoundOrder::Nobody => {
-            return error_answer(name);
-        }
+impl From<Unread> for u8 {
+    ghost from_gives = { λ unread number. number ≡ refusal_number unread };
+
+    fn from(unread: Unread) -> u8 {
+        unread as u8
     }
 }
 
-// An answer that is four letters, or a refusal: a set's echo before the others.
-fn lettered(name: u32) -> Reading
-    ensures { read_as result ≡ lettered_answer name }
+// One of the three errors.
+#[tactic(auto, unfolding(crate::specs::Answer::error_answer))]
+fn error_named(name: u32) -> Option<Answer>
+    ensures { lettered_as result ≡ error_answer name }
 {
-    let found = host::block_at(host::set_named(name));
-    match found {
-        FoundBlock::Known(block) => {
-            return Reading::Took(4, Answer::SetEcho(block));
-        }
-        FoundBlock::Nobody => {
-            return order_answer(name);
-        }
+    match name {
+        names::ERRC => Some(Answer::Errc),
+        names::ERRD => Some(Answer::Errd),
+        names::ERRV => Some(Answer::Errv),
+        _ => None,
     }
+}
+
+// An answer that is four letters: a set's echo before an order's, and that before an error.
+#[tactic(auto, unfolding(crate::specs::Answer::lettered_answer, crate::specs::Answer::order_answer))]
+fn lettered(name: u32) -> Option<Answer>
+    ensures { lettered_as result ≡ lettered_answer name }
+{
+    Block::set_named(name)
+        .map(Answer::SetEcho)
+        .or_else(|| Order::named(name).map(Answer::OrderEcho))
+        .or_else(|| error_named(name))
 }
 
 // A get's answer: its block's data section in a frame.
-fn read_data(block: Block, bytes: &[u8]) -> Reading
+#[tactic(auto, unfolding(crate::specs::Answer::data_answer))]
+fn read_data(block: Block, bytes: &[u8]) -> Result<Reading, Unread>
     ensures { read_as result ≡ data_answer block bytes.now }
 {
-    let head = host::head_of(block);
-    let total = head.total;
-    if bytes.len() < total {
-        return Reading::Cut;
+    let size = block.head().total;
+    let sent = bytes.get(..size).ok_or(Unread::Cut)?;
+    if !frame::is_intact(sent) {
+        return Err(Unread::Damaged);
     }
-    if !frame::is_intact(&bytes[..total]) {
-        return Reading::Damaged;
-    }
-    let end = total - 2;
-    Reading::Took(total, Answer::Data(fields::decode(block, &bytes[4..end])))
+    let answer = Answer::Data(Fields::decode(block, &sent[4..size - 2]));
+    Ok(Reading { size, answer })
 }
 
 // One answer from the front, whatever stands behind it.
-pub fn read(bytes: &[u8]) -> Reading
+pub fn read(bytes: &[u8]) -> Result<Reading, Unread>
     ensures { read_as result ≡ first_answer bytes.now }
 {
-    if bytes.len() == 0 {
-        return Reading::NoName;
-    }
-    if bytes[0] == 0 {
-        return Reading::Took(1, Answer::Zero);
+    let [first, ..] = bytes else {
+        return Err(Unread::NoName);
+    };
+    if *first == 0 {
+        return Ok(Reading {
+            size: 1,
+            answer: Answer::Zero,
+        });
     }
     if bytes.len() < 4 {
-        return Reading::NoName;
+        return Err(Unread::NoName);
     }
-    let name = wire::u32_at(bytes, 0);
-    let found = host::block_at(host::get_named(name));
-    match found {
-        FoundBlock::Known(block) => {
-            return read_data(block, bytes);
-        }
-        FoundBlock::Nobody => {
-            return lettered(name);
-        }
+    let name = u32::read(bytes, 0);
+    match Block::get_named(name) {
+        Some(block) => read_data(block, bytes),
+        None => lettered(name)
+            .map(|answer| Reading { size: 4, answer })
+            .ok_or(Unread::NoAnswer),
     }
 }

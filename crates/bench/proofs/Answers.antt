@@ -1,22 +1,33 @@
--- What the program needs of a call's answer: what is written lies within the buffer. Assumes nothing.
+-- What the program needs of a call's answer: it is no refusal. Assumes nothing.
 use mathlib.Core.List.{List}
-use mathlib.Core.Path.{◌≡◌, sym, ap}
+use mathlib.Core.Path.{◌≡◌, refl, ap, ◌∙◌}
+use mathlib.Core.Bool.{true}
+use Rattle.std.specs.Prelude.{Result, Ok, Err, is_ok}
 use Prim.Native.Nat.{ℕ, ◌≤◌}
-use native.Mathlib.Omega.{arith}
-use lib.ListN.{length, take, length-append}
-use lib.Seq.{length-take-le}
+use lib.ListN.{length}
 use Rattle.rule.specs.Calls.{Called}
+use Rattle.rule.proofs.Loop.{accept_number}
+use Rattle.rule.proofs.Numbered.{call_accepted}
+use Rattle.sheet.specs.Lengths.{longest_frame, longest_piece}
 use Rattle.orders.specs.declared.Order.{Order}
 use Rattle.unit.specs.declared.Memory.{Memory}
-use Rattle.state.specs.Returned.{Returned}
 use Rattle.state.specs.declared.Board.{Board}
-use Rattle.state.specs.declared.Call.{Call}
-use Rattle.receiver.specs.Receive.{answer}
+use Rattle.state.specs.Call.{Call, call_in}
+use Rattle.state.specs.declared.Done.{Done}
+use Rattle.state.specs.declared.Refusal.{Refusal}
+use Rattle.state.specs.State.{state_of}
+use Rattle.state.specs.Sound.{sound_board, refusal_of}
+use Rattle.state.proofs.Boards.{refusal_none}
+use Rattle.state.proofs.Refused.{number_some}
+use Rattle.unit.specs.Protocol.{protocol}
+use Rattle.receiver.specs.Receive.{Receives}
 
-module _ (b : Board) {c : Called Order Memory} {before after : List ℕ} {r : Call} (got : Returned (answer b) c before r after) where
-  pub written_fits : r.written ≤ length after
-  written_fits =
-      rw (ap (λ (y : Call). y.written) got.result, got.reply, length-append) (omega arith)
-
-  pub written_front : r.written ≡ length (take r.written after)
-  written_front = sym (length-take-le r.written after written_fits)
+-- a call that is not refused
+pub not_refused : (b : Board) (t : ℕ) (piece before after : List ℕ) (x : Result (Done Board) Refusal) → Receives b t piece before (call_in b x) after
+    → sound_board b ≡ true → length piece ≤ longest_piece → longest_frame ≤ length before → is_ok x ≡ true
+not_refused b t piece before after (Ok d) got sound few room = refl
+not_refused b t piece before after (Err e) got sound few room =
+    let n = refusal_none b sound in
+    let zero = call_accepted protocol (refusal_of b) (state_of b) t (length before) piece few room n in
+    absurd (number_some e (ap (λ (y : Call). y.number) got.result ∙ ap (λ (c : Called Order Memory). c.number) zero
+    ∙ accept_number protocol (state_of b) t (length before) piece))

@@ -17,8 +17,8 @@ use Rattle.unit.specs.Protocol.{protocol, fresh_state}
 use Rattle.unit.specs.declared.Memory.{Memory}
 use Rattle.receiver.proofs.Calls.{accept_some}
 use Rattle.trace.specs.Record.{reading}
-use Rattle.trace.specs.declared.Reading.{Reading}
-use Rattle.trace.specs.declared.Reading.TheVariants.{Record, More, Bad}
+use Rattle.trace.specs.declared.Head.{Head}
+use Rattle.trace.specs.declared.NoRecord.{NoRecord}
 use Rattle.trace.proofs.Records.{record_fits}
 use Rattle.bench.specs.Trace.{reply_room, Recorded, offered, records, records_in, calls, calls_for, calls_of, calls_in}
 use Rattle.bench.specs.declared.Ran.{Ran}
@@ -128,9 +128,9 @@ unfolding records calls_of
 fewer zero x s = omega arith
 fewer (suc n) x s = by (reading s) refl (λ y q. fewer n y q)
   where
-    by : (v : Reading) → reading s ≡ v → ((y : State Memory) (q : List ℕ) → calls_of y (records n q) ≤ length q)
+    by : (v : Result Head NoRecord) → reading s ≡ v → ((y : State Memory) (q : List ℕ) → calls_of y (records n q) ≤ length q)
         → calls_of x (offered (records n) s v) ≤ length s
-    by (Record h) e behind =
+    by (Ok h) e behind =
         let u = take h.count (drop 7 s) in
         let q = drop (7 + h.count) s in
         omega (
@@ -141,8 +141,7 @@ fewer (suc n) x s = by (reading s) refl (λ y q. fewer n y q)
           length-drop (7 + h.count) s,
           behind (steps protocol x (at h.stamp u)).next q,
         )
-    by More e behind = omega arith
-    by Bad e behind = omega arith
+    by (Err n) e behind = omega arith
 
 -- no more calls than bytes: a record has 7 besides those that it offers
 pub calls_fewer : (s : List ℕ) → calls_in s ≤ length s

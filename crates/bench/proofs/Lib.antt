@@ -1,5 +1,5 @@
-mod Answers
 mod Calls
 mod Rest
 mod Traces
 mod Example
+mod Answers

@@ -2,11 +2,10 @@
 use Prim.Native.Nat.{ℕ, suc, ◌+◌, ◌-◌, ◌≤◌, ◌<◌}
 use mathlib.Core.Bool.{true}
 use mathlib.Core.List.{List, [], ◌++◌}
-use mathlib.Core.Path.{◌≡◌, refl, ap, sym, ◌∙◌}
+use mathlib.Core.Path.{◌≡◌, ap, sym, ◌∙◌}
 use native.Mathlib.Omega.{arith}
 use lib.ListN.{length, take, drop, take-append-drop, length-drop, drop_of_length-le}
-use lib.Seq.{take_all, drop-drop}
-use borrow.Rule.Slice.PartMut.{mid_of}
+use lib.Seq.{take_all}
 use Rattle.rule.specs.Run.{Item, at}
 use Rattle.rule.specs.Rule.{Said, State, whole_run}
 use Rattle.rule.specs.Step.{steps}
@@ -24,7 +23,7 @@ use Rattle.unit.proofs.Sound.{steps_sound, fresh_sound}
 use Rattle.state.specs.State.{state_of, board_of}
 use Rattle.state.specs.Sound.{sound_board, refusal_of}
 use Rattle.state.specs.declared.Board.{Board}
-use Rattle.state.specs.declared.Call.{Call}
+use Rattle.state.specs.Call.{Call}
 use Rattle.state.proofs.Boards.{state_board, refusal_none}
 use Rattle.receiver.specs.Receive.{answer}
 use Rattle.receiver.proofs.Calls.{call_board}
@@ -65,81 +64,90 @@ passed {end} {b} {next} t u r l e =
           ∙ ap (λ (a : Said Order (State Memory)). a.next) (sym (steps_append protocol (at t u) r (state_of b))) ∙ l.ends;
     }
 
--- a part up to the end
-pub tail : (k : ℕ) (p : List ℕ) → mid_of k (length p - k) p ≡ drop k p
+-- a part of p from the place k on, as the code takes it
+abbrev pub from : ℕ → List ℕ → List ℕ
+from k p = take (length p - k) (drop k p)
+
+pub tail : (k : ℕ) (p : List ℕ) → from k p ≡ drop k p
 tail k p = take_all (length p - k) (drop k p) (omega (arith, length-drop k p))
 
--- k bytes of the piece p are taken, by n calls from the state x, and left the board b
-pub record Partly (x : State Memory) (t : ℕ) (p : List ℕ) (k : ℕ) (b : Board) (n : ℕ) : Type 0 where
-  pub within : k ≤ length p
-  pub leads : Leads (steps protocol x (at t p)).next b (at t (drop k p))
-  pub counts : n + calls_for (state_of b) t (drop k p) ≡ calls_for x t p
+pub length_tail : (k : ℕ) (p : List ℕ) → length (from k p) ≡ length p - k
+length_tail k p = ap length (tail k p) ∙ length-drop k p
 
--- nothing is taken yet
-pub untaken : {b : Board} (t : ℕ) (p : List ℕ) → sound_board b ≡ true → b ≡ board_of (state_of b) → Partly (state_of b) t p 0 b 0
-untaken t p h e = record { within = omega arith; leads = record { sound = h; form = e; ends = refl }; counts = omega arith }
+-- the piece p is taken up to the bytes `rest`, by n calls from the state x, and left the board b
+pub record Partly (x : State Memory) (t : ℕ) (p rest : List ℕ) (b : Board) (n : ℕ) : Type 0 where
+  pub within : length rest ≤ length p
+  pub leads : Leads (steps protocol x (at t p)).next b (at t rest)
+  pub counts : n + calls_for (state_of b) t rest ≡ calls_for x t p
 
 -- one more call answers r
-pub record Turn (x : State Memory) (t : ℕ) (p : List ℕ) (k n : ℕ) (r : Call) : Type 0 where
+pub record Turn (x : State Memory) (t : ℕ) (p rest : List ℕ) (n : ℕ) (r : Call) : Type 0 where
   pub room : n ≤ longest_piece
-  pub fits : k + r.taken ≤ length p
-  pub some : k < length p → 0 < r.taken
-  pub last : length p ≤ k + r.taken → (r.board ≡ board_of (steps protocol x (at t p)).next) × (n + 1 ≡ calls_for x t p)
-  pub next : k + r.taken < length p → Partly x t p (k + r.taken) r.board (n + 1)
+  pub fits : r.taken ≤ length rest
+  pub last : length (from r.taken rest) ≡ 0 → (r.board ≡ board_of (steps protocol x (at t p)).next) × (n + 1 ≡ calls_for x t p)
+  pub less : 0 < length (from r.taken rest) → length (from r.taken rest) < length rest
+  pub next : 0 < length (from r.taken rest) → Partly x t p (from r.taken rest) r.board (n + 1)
 
-module _ {x : State Memory} {b : Board} {n : ℕ} {r : Call} (t : ℕ) (p : List ℕ) (few : length p ≤ longest_piece) (k : ℕ) (l : Partly x t p k b n)
-    (is : r ≡ answer b (call protocol (refusal_of b) (state_of b) t reply_room (mid_of k (length p - k) p))) where
+module _ {x : State Memory} {b : Board} {n : ℕ} {r : Call} (t : ℕ) (p rest : List ℕ) (few : length p ≤ longest_piece) (l : Partly x t p rest b n)
+    (is : r ≡ answer b (call protocol (refusal_of b) (state_of b) t reply_room rest)) where
   abbrev c : Called Order Memory
-  c = call protocol 0 (state_of b) t reply_room (drop k p)
+  c = call protocol 0 (state_of b) t reply_room rest
 
   -- a call is the byte steps over what it took
-  taken_steps : TakesSteps protocol (state_of b) t (drop k p) c
-  taken_steps = call_steps protocol 0 (drop k p) (state_of b) t reply_room
+  taken_steps : TakesSteps protocol (state_of b) t rest c
+  taken_steps = call_steps protocol 0 rest (state_of b) t reply_room
 
   called : r ≡ answer b c
-  called = rw (tail k p, refusal_none b l.leads.sound) at is
+  called = rw (refusal_none b l.leads.sound) at is
 
   taken_is : r.taken ≡ c.taken
   taken_is = ap (λ (y : Call). y.taken) called
 
   left_is : r.board ≡ board_of c.said.next
   left_is =
-      ap (λ (y : Call). y.board) called ∙ ap (λ (y : Board). (answer y c).board) l.leads.form ∙ call_board 0 (state_of b) t reply_room (drop k p)
+      ap (λ (y : Call). y.board) called ∙ ap (λ (y : Board). (answer y c).board) l.leads.form ∙ call_board 0 (state_of b) t reply_room rest
 
-  rest_leads : Leads (steps protocol x (at t p)).next r.board (at t (drop (k + r.taken) p))
+  rest_leads : Leads (steps protocol x (at t p)).next r.board (at t (drop r.taken rest))
   rest_leads =
-      let front = take r.taken (drop k p) in
-      let back = drop (k + r.taken) p in
-      let joined : front ++ back ≡ drop k p =
-      ap (λ (u : List ℕ). front ++ u) (sym (drop-drop r.taken k p)) ∙ take-append-drop r.taken (drop k p) in
-      let split : at {E = Event} t (drop k p) ≡ at t front ++ at t back = ap (at t) (sym joined) ∙ at_append t front back in
+      let front = take r.taken rest in
+      let back = drop r.taken rest in
+      let split : at {E = Event} t rest ≡ at t front ++ at t back = ap (at t) (sym (take-append-drop r.taken rest)) ∙ at_append t front back in
       let same : c.said ≡ steps protocol (state_of b) (at t front) =
-      taken_steps.same ∙ ap (λ (m : ℕ). steps protocol (state_of b) (at t (take m (drop k p)))) (sym taken_is) in
+      taken_steps.same ∙ ap (λ (m : ℕ). steps protocol (state_of b) (at t (take m rest))) (sym taken_is) in
       passed t front (at t back) (rw split at l.leads) (left_is ∙ ap (λ (a : Said Order (State Memory)). board_of a.next) same)
 
-  left_length : length (drop k p) ≡ length p - k
-  left_length = length-drop k p
-
-  few_left : length (drop k p) ≤ longest_piece
-  few_left = omega (arith, left_length)
+  few_left : length rest ≤ longest_piece
+  few_left = omega (arith, l.within)
 
   -- the calls for what was left are this one and those for what it leaves
-  counted : k + r.taken < length p → calls_for (state_of b) t (drop k p) ≡ suc (calls_for (state_of r.board) t (drop (k + r.taken) p))
+  counted : r.taken < length rest → calls_for (state_of b) t rest ≡ suc (calls_for (state_of r.board) t (drop r.taken rest))
   counted h =
-      let left : drop c.taken (drop k p) ≡ drop (k + r.taken) p =
-      drop-drop c.taken k p ∙ ap (λ (m : ℕ). drop (k + m) p) (sym taken_is) in
+      let left : drop c.taken rest ≡ drop r.taken rest = ap (λ (m : ℕ). drop m rest) (sym taken_is) in
       let state : c.said.next ≡ state_of r.board = sym (ap state_of left_is ∙ state_board _) in
-      calls_next t (state_of b) (drop k p) few_left (omega (arith, left_length, taken_is)) ∙ rw (left, state)
+      calls_next t (state_of b) rest few_left (omega (arith, taken_is)) ∙ rw (left, state)
 
-  pub turn : Turn x t p k n r
+  all : length (from r.taken rest) ≡ 0 → length rest ≤ r.taken
+  all h = omega (arith, h, length_tail r.taken rest)
+
+  more : 0 < length (from r.taken rest) → r.taken < length rest
+  more h = omega (arith, h, length_tail r.taken rest)
+
+  some : 0 < length rest → 0 < r.taken
+  some h = rw taken_is (call_takes t (state_of b) rest few_left h)
+
+  pub turn : Turn x t p rest n r
   turn =
       record {
-        room = omega (arith, l.counts, calls_some t (length (drop k p)) (state_of b) (drop k p), calls_most t (length p) x p);
-        fits = omega (arith, taken_is, taken_steps.most, left_length, l.within);
-        some = λ h. rw taken_is (call_takes t (state_of b) (drop k p) few_left (omega (arith, left_length)));
+        room = omega (arith, l.counts, calls_some t (length rest) (state_of b) rest, calls_most t (length p) x p);
+        fits = omega (arith, taken_is, taken_steps.most);
         last = λ h. (
-          arrived rest_leads (ap (at t) (drop_of_length-le p h)),
-          omega (arith, l.counts, calls_last t (state_of b) (drop k p) few_left (omega (arith, left_length, taken_is))),
+          arrived rest_leads (ap (at t) (drop_of_length-le rest (all h))),
+          omega (arith, l.counts, calls_last t (state_of b) rest few_left (omega (arith, taken_is, all h))),
         );
-        next = λ h. record { within = omega arith; leads = rest_leads; counts = omega (arith, l.counts, counted h) };
+        less = λ h. omega (arith, length_tail r.taken rest, some (omega (arith, more h)));
+        next = λ h. rw (tail r.taken rest) (record {
+          within = omega (arith, l.within, length-drop r.taken rest);
+          leads = rest_leads;
+          counts = omega (arith, l.counts, counted (more h));
+        });
       }

@@ -1,5 +1,5 @@
 -- What a trace holds, the run of its bytes, and the calls that it gets. In quotation marks: sheet 01, "The bench program".
-use Rattle.std.specs.Prelude.{ℕ, zero, suc, ◌+◌, List, [], ◌∷◌, ◌++◌, length, take, drop}
+use Rattle.std.specs.Prelude.{ℕ, zero, suc, ◌+◌, List, [], ◌∷◌, ◌++◌, length, take, drop, Result, Ok, Err}
 use Rattle.rule.specs.Run.{Item, at}
 use Rattle.rule.specs.Rule.{State}
 use Rattle.rule.specs.Step.{steps}
@@ -8,8 +8,8 @@ use Rattle.unit.specs.Unit.{Event}
 use Rattle.unit.specs.Protocol.{protocol, fresh_state}
 use Rattle.unit.specs.declared.Memory.{Memory}
 use Rattle.trace.specs.Record.{reading}
-use Rattle.trace.specs.declared.Reading.{Reading}
-use Rattle.trace.specs.declared.Reading.TheVariants.{Record, More, Bad}
+use Rattle.trace.specs.declared.Head.{Head}
+use Rattle.trace.specs.declared.NoRecord.{NoRecord}
 
 -- "Reply room is 250."
 abbrev pub reply_room : ℕ
@@ -22,10 +22,9 @@ pub record Recorded : Type 0 where
 
 -- the records of the bytes s, whose front reads as the third argument: "stamp (4 bytes), count (1 byte, 0 to 250), that many bytes", and then `rest`
 -- of what stands behind them. "A wrong mark, a count over 250 or a cut record": "none of that record's bytes is offered, and reading stops."
-abbrev pub offered : (List ℕ → List Recorded) → List ℕ → Reading → List Recorded
-offered rest s (Record h) = record { stamp = h.stamp; bytes = take h.count (drop 7 s) } ∷ rest (drop (7 + h.count) s)
-offered rest s More = []
-offered rest s Bad = []
+abbrev pub offered : (List ℕ → List Recorded) → List ℕ → Result Head NoRecord → List Recorded
+offered rest s (Ok h) = record { stamp = h.stamp; bytes = take h.count (drop 7 s) } ∷ rest (drop (7 + h.count) s)
+offered rest s (Err e) = []
 
 -- record after record. The number bounds them. Where no bytes are left, they read as a cut record, and the records end
 unfoldable pub records : ℕ → List ℕ → List Recorded

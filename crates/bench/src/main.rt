@@ -1,8 +1,9 @@
 // The bench: runs a trace from standard input through the receiver, and prints a line a call (sheet 01, "The bench program").
+// An error of any function here is the output's, or of `main` the input's: what was printed before it stays, and it ends the program.
 #![tactic(auto)]
 
 ghost use Rattle.std.specs.Prelude.{true, ◌≡◌, ◌≤◌, length, IfOk};
-ghost use Rattle.streams.specs.Streams.{Says, Grows};
+ghost use Rattle.streams.specs.Streams.{Grows};
 ghost use Rattle.rule.specs.Run.{at as atStamp};
 ghost use Rattle.rule.specs.Rule.{whole_run};
 ghost use Rattle.rule.specs.Step.{steps};
@@ -12,23 +13,17 @@ ghost use Rattle.unit.specs.Unit.{fresh_memory};
 ghost use Rattle.unit.specs.Protocol.{protocol};
 ghost use Rattle.state.specs.State.{state_of, board_of};
 ghost use Rattle.state.specs.Sound.{sound_board, refusal_of};
+ghost use Rattle.state.specs.Call.{call_in};
 ghost use Rattle.receiver.specs.Receive.{answer};
 ghost use Rattle.bench.specs.Trace.{reply_room, run_in, calls_for, calls_in};
 
-use state::{Board, Call};
+use state::{Board, Done};
 use std::io;
 use std::io::Write;
-use trace::Reading;
+use streams::say;
 
 // "Reply room is 250."
 const ROOM: usize = 250;
-
-// An error of any function here is the output's, or of `main` the input's: what was printed before it stays, and it ends the program.
-fn say<W: Write>(out: &mut W, text: &[u8]) -> io::Result<()>
-    ensures { Says (W.contents out.old) (W.contents out.new) result text.now }
-{
-    streams::say(out, text)
-}
 
 fn say_bad<W: Write>(out: &mut W, place: usize) -> io::Result<()>
     ensures { Grows (W.contents out.old) (W.contents out.new) }
@@ -47,17 +42,27 @@ fn say_end<W: Write>(out: &mut W, board: Board) -> io::Result<()>
     say(out, &line[..n])
 }
 
-// One call and its line.
-fn call_once<W: Write>(out: &mut W, board: Board, stamp: u32, piece: &[u8]) -> io::Result<Call>
-    ensures ok { IfOk result (λ call. call ≡ answer board (rules protocol (refusal_of board) (state_of board) stamp reply_room piece.now)) }
+// One call and its line: a sound board refuses none that is no longer than a call takes.
+fn call_once<W: Write>(
+    out: &mut W,
+    board: Board,
+    stamp: u32,
+    piece: &[u8],
+) -> io::Result<Done<Board>>
+    requires { (sound_board board ≡ true) × (length piece.now ≤ longest_piece) }
+    ensures ok { IfOk result (λ call. call_in board (Ok call) ≡ answer board (rules protocol (refusal_of board) (state_of board) stamp reply_room piece.now)) }
     ensures out { Grows (W.contents out.old) (W.contents out.new) }
 {
     let mut reply = [0u8; ROOM];
-    let call = receiver::receive(board, piece, stamp, &mut reply);
-    let order = call.order;
-    let written = call.written;
+    let call = receiver::receive(board, piece, stamp, &mut reply).unwrap();
     let mut line = [0u8; 600];
-    let n = lines::write_line(&mut line, stamp, call.taken, order, &reply[..written]);
+    let n = lines::write_line(
+        &mut line,
+        stamp,
+        call.taken,
+        call.order,
+        &reply[..call.written],
+    );
     say(out, &line[..n])?;
     Ok(call)
 }
@@ -76,16 +81,15 @@ fn offer<W: Write>(out: &mut W, board: Board, stamp: u32, piece: &[u8]) -> io::R
         × (ran.calls ≡ calls_for (state_of board) stamp piece.now)) }
     ensures out { Grows (W.contents out.old) (W.contents out.new) }
 {
-    let mut cur = board;
-    let mut at = 0;
-    let mut calls = 0;
+    let mut ran = Ran { board, calls: 0 };
+    let mut rest = piece;
     loop {
-        let call = call_once(out, cur, stamp, &piece[at..])?;
-        calls += 1;
-        cur = call.board;
-        at += call.taken;
-        if piece.len() <= at {
-            return Ok(Ran { board: cur, calls });
+        let call = call_once(out, ran.board, stamp, rest)?;
+        ran.calls += 1;
+        ran.board = call.board;
+        rest = &rest[call.taken..];
+        if rest.is_empty() {
+            return Ok(ran);
         }
     }
 }
@@ -96,25 +100,26 @@ fn run<W: Write>(out: &mut W, bytes: &[u8]) -> io::Result<Ran>
         × (ran.calls ≡ calls_in bytes.now)) }
     ensures out { Grows (W.contents out.old) (W.contents out.new) }
 {
-    let mut board = state::fresh();
-    let mut at = 0;
-    let mut calls = 0;
-    while at < bytes.len() {
-        let reading = trace::read_record(&bytes[at..]);
-        let Reading::Record(head) = reading else {
-            say_bad(out, at)?;
-            return Ok(Ran { board, calls });
+    let mut ran = Ran {
+        board: Board::fresh(),
+        calls: 0,
+    };
+    let mut rest = bytes;
+    while !rest.is_empty() {
+        let Ok(head) = trace::read_record(rest) else {
+            say_bad(out, bytes.len() - rest.len())?;
+            return Ok(ran);
         };
-        let from = at + 7;
-        let to = from + head.count;
-        let ran = offer(out, board, head.stamp, &bytes[from..to])?;
-        board = ran.board;
-        calls += ran.calls;
-        at = to;
+        let (piece, behind) = rest[7..].split_at(head.count);
+        let offered = offer(out, ran.board, head.stamp, piece)?;
+        ran.calls += offered.calls;
+        ran.board = offered.board;
+        rest = behind;
     }
-    Ok(Ran { board, calls })
+    Ok(ran)
 }
 
+// The input has a buffer of its own and no Vec: so the program stands on C's reading and writing alone, and not on its heap.
 fn main(rt: HostRuntime) -> io::Result<()> {
     let mut input = [0u8; 60001];
     let n = streams::read_full(&mut rt.stdin(), &mut input)?;

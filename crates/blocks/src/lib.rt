@@ -13,6 +13,7 @@ use host::Block;
 use mov::Mov;
 use pid::Pid;
 use pwr::Pwr;
+use sheet::Block as _;
 
 #[repr(C)]
 #[derive(Clone, Copy)]
@@ -32,34 +33,13 @@ impl Blocks {
         ensures { result ≡ fields_at self block }
     {
         match block {
-            Block::Mov => {
-                let x = self.mov;
-                return Fields::Mov(x);
-            }
-            Block::Eng => {
-                let x = self.eng;
-                return Fields::Eng(x);
-            }
-            Block::Pwr => {
-                let x = self.pwr;
-                return Fields::Pwr(x);
-            }
-            Block::Eds => {
-                let x = self.eds;
-                return Fields::Eds(x);
-            }
-            Block::Hom => {
-                let x = self.hom;
-                return Fields::Hom(x);
-            }
-            Block::Brk => {
-                let x = self.brk;
-                return Fields::Brk(x);
-            }
-            Block::Pid => {
-                let x = self.pid;
-                return Fields::Pid(x);
-            }
+            Block::Mov => Fields::Mov(self.mov),
+            Block::Eng => Fields::Eng(self.eng),
+            Block::Pwr => Fields::Pwr(self.pwr),
+            Block::Eds => Fields::Eds(self.eds),
+            Block::Hom => Fields::Hom(self.hom),
+            Block::Brk => Fields::Brk(self.brk),
+            Block::Pid => Fields::Pid(self.pid),
         }
     }
 
@@ -82,36 +62,15 @@ impl Blocks {
     pub fn with_fields(fields: Fields) -> Blocks
         ensures { result ≡ blocks_with fields }
     {
-        let mut blocks = Blocks::fresh();
+        let fresh = Blocks::fresh();
         match fields {
-            Fields::Mov(x) => {
-                blocks.mov = x;
-                return blocks;
-            }
-            Fields::Eng(x) => {
-                blocks.eng = x;
-                return blocks;
-            }
-            Fields::Pwr(x) => {
-                blocks.pwr = x;
-                return blocks;
-            }
-            Fields::Eds(x) => {
-                blocks.eds = x;
-                return blocks;
-            }
-            Fields::Hom(x) => {
-                blocks.hom = x;
-                return blocks;
-            }
-            Fields::Brk(x) => {
-                blocks.brk = x;
-                return blocks;
-            }
-            Fields::Pid(x) => {
-                blocks.pid = x;
-                return blocks;
-            }
+            Fields::Mov(mov) => Blocks { mov, ..fresh },
+            Fields::Eng(eng) => Blocks { eng, ..fresh },
+            Fields::Pwr(pwr) => Blocks { pwr, ..fresh },
+            Fields::Eds(eds) => Blocks { eds, ..fresh },
+            Fields::Hom(hom) => Blocks { hom, ..fresh },
+            Fields::Brk(brk) => Blocks { brk, ..fresh },
+            Fields::Pid(pid) => Blocks { pid, ..fresh },
         }
     }
 }

@@ -1,2 +1,1 @@
-mod Laid
 pub mod One

@@ -8,7 +8,7 @@ use Rattle.state.specs.Parts.{board_at, rest_of}
 use Rattle.state.specs.Sound.{refusal_of}
 use Rattle.state.specs.Returned.{Returned}
 use Rattle.state.specs.declared.Board.{Board}
-use Rattle.state.specs.declared.Call.{Call}
+use Rattle.state.specs.Call.{Call}
 use Rattle.receiver.specs.Receive.{answer}
 use Rattle.board.specs.declared.Answer.{Answer}
 

@@ -7,15 +7,16 @@ ghost use Rattle.unit.specs.Protocol.{fresh_state};
 ghost use Rattle.state.specs.State.{board_of};
 ghost use Rattle.state.specs.Parts.{board_at};
 ghost use Rattle.state.specs.Sound.{refusal_of};
+ghost use Rattle.state.specs.Refused.{number_in, report_in};
 ghost use Rattle.clock.specs.Report.{reported};
 ghost use Rattle.drive.specs.Report.{reported as located};
 ghost use Rattle.flash.specs.Flash.{out_number, handed, taken_back};
 ghost use Rattle.board.specs.Answer.{left_in, Answered};
 
 use position::{Microsteps, Position, Steps};
-use state::{Board, Report, Rest};
+use state::{Board, Refusal, Report, Rest};
 
-// What a call answers, flat: an order that carries no steps and microsteps has 0 and 0.
+// What a call answers, flat and by numbers, as C gets it: an order that carries no steps and microsteps has 0 and 0.
 #[repr(C)]
 #[derive(Clone, Copy)]
 pub struct Answer {
@@ -28,11 +29,37 @@ pub struct Answer {
     pub order: u8,
 }
 
+// 01's number of an answer, 0 where it is no refusal.
+fn number<T: Drop>(answer: Result<T, Refusal>) -> u8
+    ensures { result ≡ number_in answer }
+{
+    match answer {
+        Ok(_) => 0,
+        Err(refusal) => u8::from(refusal),
+    }
+}
+
+// What a report to a board answers.
+fn report(board: Board, answer: Result<Board, Refusal>) -> Report
+    ensures { result ≡ report_in board answer }
+{
+    match answer {
+        Ok(next) => Report {
+            number: 0,
+            board: next,
+        },
+        Err(refusal) => Report {
+            number: u8::from(refusal),
+            board,
+        },
+    }
+}
+
 // A board that has taken nothing yet.
 pub fn rivertosku_fresh_4() -> Board
     ensures { result ≡ board_of fresh_state }
 {
-    state::fresh()
+    Board::fresh()
 }
 
 // One call: a piece of bytes that share a stamp, and room for the replies. The board's arrays are lent, and changed where they stand.
@@ -46,17 +73,25 @@ pub fn rivertosku_receive_4(
 ) -> Answer
     ensures { Answered (board_at table.old held.old rest) stamp piece.now reply.old (left_in table.new held.new result) reply.new }
 {
-    let done = receiver::receive_lent(table, held, rest, piece, stamp, reply);
-    let order = done.order;
-    let next = done.rest;
-    Answer {
-        number: done.number,
-        order: orders::order_number(order),
-        steps: orders::order_steps(order),
-        microsteps: orders::order_microsteps(order),
-        taken: done.taken,
-        written: done.written,
-        rest: next,
+    match receiver::receive_lent(table, held, rest, piece, stamp, reply) {
+        Ok(done) => Answer {
+            rest: done.board,
+            taken: done.taken,
+            written: done.written,
+            steps: done.order.steps(),
+            microsteps: done.order.microsteps(),
+            number: 0,
+            order: done.order.number(),
+        },
+        Err(refusal) => Answer {
+            rest,
+            taken: 0,
+            written: 0,
+            steps: Steps(0),
+            microsteps: Microsteps(0),
+            number: u8::from(refusal),
+            order: 0,
+        },
     }
 }
 
@@ -64,34 +99,33 @@ pub fn rivertosku_receive_4(
 pub fn rivertosku_report_clock_4(board: Board, now: u32) -> Report
     ensures { result ≡ reported board now }
 {
-    clock::report_time(board, now)
+    report(board, clock::report_time(board, now))
 }
 
 // One report of the position: it is the one reported, and nothing else changes.
 pub fn rivertosku_report_position_4(board: Board, position: Position) -> Report
     ensures { result ≡ located board position }
 {
-    drive::report_position(board, position)
+    report(board, drive::report_position(board, position))
 }
 
 // 0, or 3 where the board is not sound.
 pub fn rivertosku_judge_4(board: Board) -> u8
     ensures { result ≡ refusal_of board }
 {
-    let verdict = state::judge(board);
-    verdict.number
+    number(board.judge())
 }
 
 // For the flash writer: the table of a board's settings, at the front of out; a refusal writes nothing.
 pub fn rivertosku_hand_out_4(board: Board, out: &mut [u8]) -> u8
     ensures { (result ≡ out_number board (length out.old)) × (out.new ≡ handed board out.old) }
 {
-    flash::hand_out(board, out)
+    number(flash::hand_out(board, out))
 }
 
 // A board of a stored table; a fresh one where the table is refused.
 pub fn rivertosku_take_back_4(bytes: &[u8]) -> Report
     ensures { result ≡ taken_back bytes.now }
 {
-    flash::take_back(bytes)
+    report(Board::fresh(), flash::take_back(bytes))
 }

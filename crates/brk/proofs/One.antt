@@ -1,13 +1,13 @@
 -- Each public function's promise leaves one answer. Assumes nothing.
 use mathlib.Core.Path.{sym, ◌∙◌}
 use Rattle.promise.specs.Promise.{Leaves}
-use Rattle.brk.proofs.Brk.head.Reads as head
-use Rattle.brk.proofs.Brk.decode.Reads as decode
+use Rattle.brk.proofs.BrkBlock.head.Reads as head
+use Rattle.brk.proofs.BrkSection.decode.Reads as decode
 use Rattle.brk.proofs.Brk.numbers.Reads as numbers
-use Rattle.brk.proofs.Brk.encode.Reads as encode
-use Rattle.brk.proofs.Brk.first_bad.Reads as first-bad
-use Rattle.brk.proofs.Brk.is_sound.Reads as is-sound
-use Rattle.brk.proofs.Brk.fresh.Reads as fresh
+use Rattle.brk.proofs.BrkBlock.encode.Reads as encode
+use Rattle.brk.proofs.BrkSection.first_bad.Reads as first-bad
+use Rattle.brk.proofs.BrkBlock.is_sound.Reads as is-sound
+use Rattle.brk.proofs.BrkBlock.fresh.Reads as fresh
 
 pub head_one : Leaves head.Post (λ κs r s. r)
 head_one κs a r r' s s' p q = p ∙ sym q

@@ -3,45 +3,32 @@
 
 ghost use Rattle.std.specs.Prelude.{◌≡◌, if◌then◌else◌};
 ghost use Rattle.rule.specs.Run.{late};
+ghost use Rattle.state.specs.Refused.{report_in};
 ghost use Rattle.clock.specs.Report.{reported};
 
-use state::{Board, Report};
+use state::{Board, Refusal};
 
 // "The wait is the later stamp minus the earlier one", more than 400. Calls and reports share it.
 pub fn is_late(later: u32, earlier: u32) -> bool
     ensures { result ≡ late later earlier }
 {
-    400 < std::num::wrapping_sub_u32(later, earlier)
+    400 < later.wrapping_sub(earlier)
 }
 
 // How many of the bytes held the next byte joins: none where the wait drops them.
 pub fn joined(count: usize, later: u32, earlier: u32) -> usize
     ensures { result ≡ (if late later earlier then 0 else count) }
 {
-    if is_late(later, earlier) {
-        return 0;
-    }
-    count
+    if is_late(later, earlier) { 0 } else { count }
 }
 
 // One report of the time: what is unfinished is dropped where its last byte is too long ago.
-pub fn report_time(board: Board, now: u32) -> Report
-    ensures { result ≡ reported board now }
+pub fn report_time(board: Board, now: u32) -> Result<Board, Refusal>
+    ensures { report_in board result ≡ reported board now }
 {
-    let verdict = state::judge(board);
-    let number = verdict.number;
-    if number != 0 {
-        return Report { number, board };
+    board.judge()?;
+    if 0 < board.count && is_late(now, board.stamp) {
+        return Ok(Board::idle(board.memory, board.stamp));
     }
-    if 0 < board.count {
-        if is_late(now, board.stamp) {
-            let memory = board.memory;
-            let next = state::idle(memory, board.stamp);
-            return Report {
-                number: 0,
-                board: next,
-            };
-        }
-    }
-    Report { number: 0, board }
+    Ok(board)
 }

@@ -9,22 +9,23 @@ ghost use Rattle.crc.specs.Crc.{crc_byte, crc_from, crc_of};
 fn crc_byte(register: u32, byte: u8) -> u32
     ensures { result ≡ crc_byte register byte }
 {
-    let x = (register ^ byte as u32) % 256;
+    let x = (register ^ u32::from(byte)) % 256;
     let mut next = register >> 8;
     // Before the shifts and not behind them: the next byte waits for all that is done here in turn.
-    if u32::count_ones(x) % 2 == 1 {
-        next = next ^ 0xC001;
+    if x.count_ones() % 2 == 1 {
+        next ^= 0xC001;
     }
     next ^ x << 6 ^ x << 7
 }
 
 // The register after a part's bytes, from the register that an earlier part left.
+#[tactic(auto, using(crate::proofs::Laws::crc_more, crate::proofs::Laws::crc_ended, crate::proofs::Laws::byte_lt))]
 pub fn crc_from(register: u16, part: &[u8]) -> u16
     ensures { result ≡ crc_from register part.now }
 {
-    let mut c = register as u32;
-    for i in 0..part.len() {
-        c = crc_byte(c, part[i]);
+    let mut c = u32::from(register);
+    for &byte in part {
+        c = crc_byte(c, byte);
     }
     c as u16
 }

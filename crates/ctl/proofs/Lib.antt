@@ -1,3 +1,4 @@
 pub mod Codec
 pub mod Tests
+pub mod Made
 pub mod One

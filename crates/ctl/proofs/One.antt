@@ -1,13 +1,13 @@
 -- Each public function's promise leaves one answer. Assumes nothing.
 use mathlib.Core.Path.{sym, ◌∙◌}
 use Rattle.promise.specs.Promise.{Leaves}
-use Rattle.ctl.proofs.Ctl.head.Reads as head
-use Rattle.ctl.proofs.Ctl.decode.Reads as decode
+use Rattle.ctl.proofs.CtlBlock.head.Reads as head
+use Rattle.ctl.proofs.CtlSection.decode.Reads as decode
 use Rattle.ctl.proofs.Ctl.numbers.Reads as numbers
-use Rattle.ctl.proofs.Ctl.encode.Reads as encode
-use Rattle.ctl.proofs.Ctl.first_bad.Reads as first-bad
-use Rattle.ctl.proofs.Ctl.is_sound.Reads as is-sound
-use Rattle.ctl.proofs.Ctl.fresh.Reads as fresh
+use Rattle.ctl.proofs.CtlBlock.encode.Reads as encode
+use Rattle.ctl.proofs.CtlSection.first_bad.Reads as first-bad
+use Rattle.ctl.proofs.CtlBlock.is_sound.Reads as is-sound
+use Rattle.ctl.proofs.CtlBlock.fresh.Reads as fresh
 
 pub head_one : Leaves head.Post (λ κs r s. r)
 head_one κs a r r' s s' p q = p ∙ sym q

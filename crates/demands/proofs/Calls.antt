@@ -1,6 +1,6 @@
 -- The demands of one call, over what the contract of `receive` itself says. In quotation marks: sheet 01, "One call", and the demands by number.
 -- Assumes nothing.
-use Prim.Native.Nat.{ℕ, ◌-◌, ◌<◌, ◌≤◌}
+use Prim.Native.Nat.{ℕ, ◌<◌, ◌≤◌}
 use mathlib.Core.Path.{◌≡◌, refl, ap, sym, ◌∙◌}
 use mathlib.Core.Bool.{true, cond}
 use mathlib.Core.List.{List, [], ◌∷◌, ◌++◌}
@@ -29,9 +29,9 @@ use Rattle.state.specs.State.{state_of, board_of}
 use Rattle.state.specs.Sound.{sound_board, refusal_of}
 use Rattle.state.specs.Returned.{Returned}
 use Rattle.state.specs.declared.Board.{Board}
-use Rattle.state.specs.declared.Call.{Call}
+use Rattle.state.specs.Call.{Call}
 use Rattle.receiver.specs.Receive.{answer}
-use Rattle.receiver.proofs.Calls.{call_order, call_state, accept_some}
+use Rattle.receiver.proofs.Calls.{answer_given, call_order, call_state, accept_some}
 use Rattle.demands.specs.Calls.{Answers, allowed, Untouched, Cause, ended, ordered, full}
 
 -- ---- what the contract allows
@@ -39,7 +39,7 @@ use Rattle.demands.specs.Calls.{Answers, allowed, Untouched, Cause, ended, order
 -- what it says
 pub promise : {b : Board} {t : ℕ} {p before after : List ℕ} {r : Call} → Answers b t p before r after
     → Returned (answer b) (call protocol (refusal_of b) (state_of b) t (length before) p) before r after
-promise (allowed κs a s got e f g h k) = rw (← e, ← f, ← g, ← h, ← k) got
+promise (allowed κs a x s got e f g h l k) = rw (← l, ← e, ← f, ← g, ← h, ← k) got
 
 -- "that promise leaves one possible answer: number, state and each byte of the reply buffer, refusals too"
 pub receive_one : {b : Board} {t : ℕ} {p before after after' : List ℕ} {r r' : Call} → Answers b t p before r after → Answers b t p before r' after'
@@ -59,8 +59,9 @@ pub receive_some : (b : Board) (t : ℕ) (p before : List ℕ) → let c = call 
 receive_some b t p before =
     let c = call protocol (refusal_of b) (state_of b) t (length before) p in
     let after = c.said.reply ++ drop (length c.said.reply) before in
-    allowed ([], ([], tt)) (b, (ref_to p, (t, (lent_to before, tt)))) (b, (ref_to p, (t, (lent_to after, tt)))) (record { result = refl; reply = refl })
-    refl refl refl refl refl
+    let given = answer_given b t (length before) p in
+    allowed ([], ([], tt)) (b, (ref_to p, (t, (lent_to before, tt)))) given.0 (b, (ref_to p, (t, (lent_to after, tt)))) (record { result = given.1; reply = refl })
+    refl refl refl refl given.1 refl
 
 -- ---- one call
 

@@ -15,17 +15,18 @@ use Rattle.state.specs.Sound.{sound_board}
 use Rattle.state.specs.declared.Board.{Board}
 use Rattle.state.specs.declared.Report.{Report}
 use Rattle.drive.specs.Report.{placed_board, position_refusal, reported}
+use Rattle.drive.proofs.Reports.{report_given}
 use Rattle.demands.specs.Reports.{Locates, allowed}
 
 pub place_promise : {b : Board} {p : Position} {r : Report} → Locates b p r → r ≡ reported b p
-place_promise (allowed κs a s got e f) = rw (← e, ← f) got
+place_promise (allowed κs a x s got e f g) = rw (← g, ← e, ← f) got
 
 pub place_one : {b : Board} {p : Position} {r r' : Report} → Locates b p r → Locates b p r' → r ≡ r'
 place_one x y = place_promise x ∙ sym (place_promise y)
 
 -- every board state and position gets an answer
 pub place_some : (b : Board) (p : Position) → Locates b p (reported b p)
-place_some b p = allowed tt (b, (p, tt)) (b, (p, tt)) refl refl refl
+place_some b p = let given = report_given b p in allowed tt (b, (p, tt)) given.0 (b, (p, tt)) given.1 refl refl given.1
 
 module _ {b : Board} {p : Position} {r : Report} (got : Locates b p r) where
   -- "a report answers 3 as in 01, then 5 where its microsteps are outside -255..255"

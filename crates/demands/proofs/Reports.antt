@@ -13,18 +13,18 @@ use Rattle.clock.specs.Clock.{overdue}
 use Rattle.clock.specs.Report.{clocked_board, reported}
 use Rattle.state.specs.declared.Report.{Report}
 use Rattle.clock.proofs.Clock.{clock_sound}
-use Rattle.clock.proofs.Reports.{report_refused as kept-board, report_heard, clocked_state}
+use Rattle.clock.proofs.Reports.{report_refused as kept-board, report_heard, report_given, clocked_state}
 use Rattle.demands.specs.Reports.{Reports, allowed}
 
 pub report_promise : {b : Board} {now : ℕ} {r : Report} → Reports b now r → r ≡ reported b now
-report_promise (allowed κs a s got e f) = rw (← e, ← f) got
+report_promise (allowed κs a x s got e f g) = rw (← g, ← e, ← f) got
 
 pub report_one : {b : Board} {now : ℕ} {r r' : Report} → Reports b now r → Reports b now r' → r ≡ r'
 report_one x y = report_promise x ∙ sym (report_promise y)
 
 -- 02, P3: and every board state and time
 pub report_some : (b : Board) (now : ℕ) → Reports b now (reported b now)
-report_some b now = allowed tt (b, (now, tt)) (b, (now, tt)) refl refl refl
+report_some b now = let given = report_given b now in allowed tt (b, (now, tt)) given.0 (b, (now, tt)) given.1 refl refl given.1
 
 module _ {b : Board} {now : ℕ} {r : Report} (got : Reports b now r) where
   -- the number 0, or 3 where the state is not sound: "Refusals: 3 as in 01."

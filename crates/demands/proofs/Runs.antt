@@ -50,9 +50,9 @@ use Rattle.unit.proofs.Sound.{SoundEvent, sound_begun}
 use Rattle.state.specs.State.{state_of, board_of}
 use Rattle.state.specs.Sound.{sound_board, refusal_of}
 use Rattle.state.specs.declared.Board.{Board}
-use Rattle.state.specs.declared.Call.{Call}
+use Rattle.state.specs.Call.{Call}
 use Rattle.state.proofs.Boards.{state_board, refusal_none}
-use Rattle.state.proofs.fresh.Reads as fresh
+use Rattle.state.proofs.Board.fresh.Reads as fresh
 use Rattle.clock.specs.Clock.{overdue, dropped}
 use Rattle.clock.specs.Report.{reported}
 use Rattle.state.specs.declared.Report.{Report}

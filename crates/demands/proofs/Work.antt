@@ -13,7 +13,7 @@ use Rattle.orders.specs.declared.Order.{Order}
 use Rattle.unit.specs.Unit.{Event}
 use Rattle.state.specs.Sound.{sound_board}
 use Rattle.state.specs.declared.Board.{Board}
-use Rattle.state.specs.declared.Call.{Call}
+use Rattle.state.specs.Call.{Call}
 use Rattle.demands.specs.Calls.{Answers}
 use Rattle.demands.specs.Runs.{called, done, next, Offered}
 use Rattle.demands.specs.Work.{Piece, run_of, bytes_in, Short, Worked, over, past, call}

@@ -1,19 +1,21 @@
 -- The words of the demands of one call. In quotation marks: sheet 01, "One call".
-use Rattle.std.specs.Prelude.{ℕ, ◌-◌, ◌<◌, ◌≡◌, List, ◌∷◌, length, drop}
+use Rattle.std.specs.Prelude.{Result, ℕ, ◌-◌, ◌<◌, ◌≡◌, List, ◌∷◌, length, drop}
 use Rattle.rule.specs.Run.{byte}
 use Rattle.rule.specs.Step.{step}
 use Rattle.orders.specs.declared.Order.TheVariants.{Nothing}
 use Rattle.unit.specs.Protocol.{protocol}
 use Rattle.state.specs.State.{state_of}
 use Rattle.state.specs.declared.Board.{Board}
-use Rattle.state.specs.declared.Call.{Call}
+use Rattle.state.specs.Call.{Call, call_in}
+use Rattle.state.specs.declared.Done.{Done}
+use Rattle.state.specs.declared.Refusal.{Refusal}
 use Rattle.receiver.proofs.receive.Reads as receive
 
 -- THE CONTRACT OF RECEIVE allows the answer r, with the reply buffer `after` at exit, to a call on the board b at the stamp t, with the piece p and
 -- the reply buffer `before` at entry. `Post` is what the checker made of the `ensures` of `receive` in src/lib.rt
 pub data Answers (b : Board) (t : ℕ) (p before : List ℕ) (r : Call) (after : List ℕ) : Type 0 where
-  allowed : (κs : _) (a : _) (s : _) → receive.Post κs a r s
-      → a.0 ≡ b → a.1.0.now ≡ p → a.1.1.0 ≡ t → a.1.1.1.0.now ≡ before → s.1.1.1.0.now ≡ after
+  allowed : (κs : _) (a : _) (x : Result (Done Board) Refusal) (s : _) → receive.Post κs a x s
+      → a.0 ≡ b → a.1.0.now ≡ p → a.1.1.0 ≡ t → a.1.1.1.0.now ≡ before → call_in b x ≡ r → s.1.1.1.0.now ≡ after
       → Answers b t p before r after
 
 -- a row of the table beside 1, 2 or 3: "0, 0, 0" and "unchanged"

@@ -11,7 +11,7 @@ use Rattle.unit.specs.declared.Memory.{Memory}
 use Rattle.state.specs.State.{state_of, board_of}
 use Rattle.state.specs.Sound.{sound_board}
 use Rattle.state.specs.declared.Board.{Board}
-use Rattle.state.specs.declared.Call.{Call}
+use Rattle.state.specs.Call.{Call}
 use Rattle.demands.specs.Calls.{Answers}
 use Rattle.demands.specs.Reports.{Tells}
 

@@ -6,7 +6,7 @@ use Rattle.rule.specs.Rule.{Said, quiet, then}
 use Rattle.orders.specs.declared.Order.{Order}
 use Rattle.unit.specs.Unit.{Event}
 use Rattle.state.specs.declared.Board.{Board}
-use Rattle.state.specs.declared.Call.{Call}
+use Rattle.state.specs.Call.{Call}
 use Rattle.demands.specs.Calls.{Answers}
 use Rattle.demands.specs.Runs.{said_by}
 

@@ -2,37 +2,25 @@
 #![tactic(auto)]
 
 ghost use Rattle.std.specs.Prelude.{◌≡◌};
-ghost use Rattle.drive.specs.Report.{placed_board, reported};
+ghost use Rattle.state.specs.Refused.{report_in};
+ghost use Rattle.drive.specs.Report.{reported};
 
 use position::Position;
-use state::{Board, Report};
+use sheet::Section;
+use state::{Board, Refusal};
+use unit::Memory;
 
-// The board with this position, and all else as it was.
-fn placed(board: Board, position: Position) -> Board
-    ensures { result ≡ placed_board board position }
+// One report of the position: it is the one reported, and all else stays; a refused one changes nothing.
+pub fn report_position(board: Board, position: Position) -> Result<Board, Refusal>
+    ensures { report_in board result ≡ reported board position }
 {
-    let mut memory = board.memory;
-    memory.position = position;
-    let mut next = board;
-    next.memory = memory;
-    next
-}
-
-// One report of the position, a refused one changes nothing.
-pub fn report_position(board: Board, position: Position) -> Report
-    ensures { result ≡ reported board position }
-{
-    let verdict = state::judge(board);
-    let number = verdict.number;
-    if number != 0 {
-        return Report { number, board };
+    board.judge()?;
+    if position.first_bad().is_some() {
+        return Err(Refusal::Range);
     }
-    if position.first_bad() != 0 {
-        return Report { number: 5, board };
-    }
-    let next = placed(board, position);
-    Report {
-        number: 0,
-        board: next,
-    }
+    let memory = Memory {
+        position,
+        ..board.memory
+    };
+    Ok(Board { memory, ..board })
 }

@@ -1,13 +1,13 @@
 -- Each public function's promise leaves one answer. Assumes nothing.
 use mathlib.Core.Path.{sym, ◌∙◌}
 use Rattle.promise.specs.Promise.{Leaves}
-use Rattle.eds.proofs.Eds.head.Reads as head
-use Rattle.eds.proofs.Eds.decode.Reads as decode
+use Rattle.eds.proofs.EdsBlock.head.Reads as head
+use Rattle.eds.proofs.EdsSection.decode.Reads as decode
 use Rattle.eds.proofs.Eds.numbers.Reads as numbers
-use Rattle.eds.proofs.Eds.encode.Reads as encode
-use Rattle.eds.proofs.Eds.first_bad.Reads as first-bad
-use Rattle.eds.proofs.Eds.is_sound.Reads as is-sound
-use Rattle.eds.proofs.Eds.fresh.Reads as fresh
+use Rattle.eds.proofs.EdsBlock.encode.Reads as encode
+use Rattle.eds.proofs.EdsSection.first_bad.Reads as first-bad
+use Rattle.eds.proofs.EdsBlock.is_sound.Reads as is-sound
+use Rattle.eds.proofs.EdsBlock.fresh.Reads as fresh
 
 pub head_one : Leaves head.Post (λ κs r s. r)
 head_one κs a r r' s s' p q = p ∙ sym q

@@ -1,14 +1,13 @@
 // Block 4, eds.
 #![tactic(auto)]
 
-ghost use Rattle.std.specs.Prelude.{◌≡◌};
-ghost use Rattle.std.proofs.lemmas.List.Edits.{sets};
+ghost use Rattle.std.specs.Prelude.{◌≡◌, refl};
 ghost use Rattle.sheet.specs.Sheet.{eds_row, seds, geds};
-ghost use Rattle.sheet.specs.Rows.{head_of, numbers_in, data_of, first_bad, fresh};
-ghost use Rattle.sheet.specs.Sections.{sound_in};
+ghost use Rattle.sheet.specs.Rows.{total};
 ghost use Rattle.eds.specs.Eds.{eds_of, eds_numbers};
 
-use sheet::Head;
+use sheet::{Block, Section};
+use wire::Number;
 
 #[repr(C)]
 #[derive(Clone, Copy)]
@@ -22,60 +21,40 @@ pub struct Eds {
 }
 
 impl Eds {
-    pub const TOTAL: usize = 26;
-
-    pub const SET: u32 = 0x73646573;
-
-    pub const GET: u32 = 0x73646567;
-
-    // The three constants, held against the sheet.
-    pub fn head() -> Head
-        ensures { result ≡ head_of seds geds }
-    {
-        Head {
-            total: Eds::TOTAL,
-            set: Eds::SET,
-            get: Eds::GET,
-        }
-    }
-
-    pub fn decode(part: &[u8]) -> Eds
-        ensures { result ≡ eds_of (numbers_in eds_row part.now) }
-    {
-        Eds {
-            borderFlags: wire::u8_at(part, 0),
-            enderFlags: wire::u8_at(part, 1),
-            leftBorder: values::i32_at(part, 2),
-            uLeftBorder: values::i16_at(part, 6),
-            rightBorder: values::i32_at(part, 8),
-            uRightBorder: values::i16_at(part, 12),
-        }
-    }
-
     // The numbers of the fields as they stand on the wire.
     pub fn numbers(self) -> [u64; 6]
         ensures { result ≡ eds_numbers self }
     {
         [
-            self.borderFlags as u64,
-            self.enderFlags as u64,
-            values::u32_of(self.leftBorder) as u64,
-            values::u16_of(self.uLeftBorder) as u64,
-            values::u32_of(self.rightBorder) as u64,
-            values::u16_of(self.uRightBorder) as u64,
+            self.borderFlags.number(),
+            self.enderFlags.number(),
+            self.leftBorder.number(),
+            self.uLeftBorder.number(),
+            self.rightBorder.number(),
+            self.uRightBorder.number(),
         ]
     }
+}
 
-    pub fn encode(self, out: &mut [u8])
-        ensures { out.new ≡ sets out.old 0 (data_of eds_row (eds_numbers self)) }
-    {
-        let ns = self.numbers();
-        wire::lay(out, &[1, 1, 4, 2, 4, 2, 6], &ns)
+impl Section for Eds {
+    ghost sheet_row = { eds_row };
+
+    ghost of = { eds_of };
+
+    ghost to = { eds_numbers };
+
+    fn decode(part: &[u8]) -> Eds {
+        Eds {
+            borderFlags: Number::read(part, 0),
+            enderFlags: Number::read(part, 1),
+            leftBorder: Number::read(part, 2),
+            uLeftBorder: Number::read(part, 6),
+            rightBorder: Number::read(part, 8),
+            uRightBorder: Number::read(part, 12),
+        }
     }
 
-    pub fn first_bad(self) -> usize
-        ensures { result ≡ first_bad eds_row (eds_numbers self) }
-    {
+    fn first_bad(self) -> Option<usize> {
         let ns = self.numbers();
         ranges::first_false(&[
             ranges::has_only_bits(0x0F, ns[0]),
@@ -86,21 +65,47 @@ impl Eds {
             ranges::is_signed_within(255, ns[5]),
         ])
     }
+}
 
-    // Whether a data section is sound: its fields in their ranges, its reserved bytes zero. It is asked at every call, so it reads only what it tests.
-    pub fn is_sound(part: &[u8]) -> bool
-        ensures { result ≡ sound_in eds_row part.now }
-    {
-        ranges::has_only_bits(15, wire::u8_at(part, 0) as u64)
-            & (ranges::has_only_bits(7, wire::u8_at(part, 1) as u64)
-                & (ranges::is_signed_within(255, wire::u16_at(part, 6) as u64)
-                    & (ranges::is_signed_within(255, wire::u16_at(part, 12) as u64)
-                        & ((wire::u32_at(part, 14) == 0) & (wire::u16_at(part, 18) == 0)))))
+impl Block for Eds {
+    ghost set = { seds };
+
+    ghost get = { geds };
+
+    const TOTAL: usize = 26;
+
+    const SET: u32 = 0x73646573;
+
+    const GET: u32 = 0x73646567;
+
+    ghost TOTAL = { total eds_row };
+
+    ghost SET = { seds.name };
+
+    ghost GET = { geds.name };
+
+    ghost total_fixed = { refl };
+
+    ghost set_fixed = { refl };
+
+    ghost get_fixed = { refl };
+
+    ghost rows = { (refl, refl) };
+
+    fn encode(self, out: &mut [u8]) {
+        let ns = self.numbers();
+        wire::lay(out, &[1, 1, 4, 2, 4, 2, 6], &ns)
     }
 
-    pub fn fresh() -> Eds
-        ensures { result ≡ eds_of (fresh eds_row) }
-    {
+    fn is_sound(part: &[u8]) -> bool {
+        ranges::has_only_bits(15, u8::read(part, 0) as u64)
+            & (ranges::has_only_bits(7, u8::read(part, 1) as u64)
+                & (ranges::is_signed_within(255, u16::read(part, 6) as u64)
+                    & (ranges::is_signed_within(255, u16::read(part, 12) as u64)
+                        & ((u32::read(part, 14) == 0) & (u16::read(part, 18) == 0)))))
+    }
+
+    fn fresh() -> Eds {
         Eds {
             borderFlags: 0,
             enderFlags: 0,

@@ -1,13 +1,13 @@
 -- Each public function's promise leaves one answer. Assumes nothing.
 use mathlib.Core.Path.{sym, ◌∙◌}
 use Rattle.promise.specs.Promise.{Leaves}
-use Rattle.eng.proofs.Eng.head.Reads as head
-use Rattle.eng.proofs.Eng.decode.Reads as decode
+use Rattle.eng.proofs.EngBlock.head.Reads as head
+use Rattle.eng.proofs.EngSection.decode.Reads as decode
 use Rattle.eng.proofs.Eng.numbers.Reads as numbers
-use Rattle.eng.proofs.Eng.encode.Reads as encode
-use Rattle.eng.proofs.Eng.first_bad.Reads as first-bad
-use Rattle.eng.proofs.Eng.is_sound.Reads as is-sound
-use Rattle.eng.proofs.Eng.fresh.Reads as fresh
+use Rattle.eng.proofs.EngBlock.encode.Reads as encode
+use Rattle.eng.proofs.EngSection.first_bad.Reads as first-bad
+use Rattle.eng.proofs.EngBlock.is_sound.Reads as is-sound
+use Rattle.eng.proofs.EngBlock.fresh.Reads as fresh
 
 pub head_one : Leaves head.Post (λ κs r s. r)
 head_one κs a r r' s s' p q = p ∙ sym q

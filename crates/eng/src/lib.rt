@@ -1,14 +1,13 @@
 // Block 2, eng.
 #![tactic(auto)]
 
-ghost use Rattle.std.specs.Prelude.{◌≡◌};
-ghost use Rattle.std.proofs.lemmas.List.Edits.{sets};
+ghost use Rattle.std.specs.Prelude.{◌≡◌, refl};
 ghost use Rattle.sheet.specs.Sheet.{eng_row, seng, geng};
-ghost use Rattle.sheet.specs.Rows.{head_of, numbers_in, data_of, first_bad, fresh};
-ghost use Rattle.sheet.specs.Sections.{sound_in};
+ghost use Rattle.sheet.specs.Rows.{total};
 ghost use Rattle.eng.specs.Eng.{eng_of, eng_numbers};
 
-use sheet::Head;
+use sheet::{Block, Section};
+use wire::Number;
 
 #[repr(C)]
 #[derive(Clone, Copy)]
@@ -24,64 +23,44 @@ pub struct Eng {
 }
 
 impl Eng {
-    pub const TOTAL: usize = 34;
-
-    pub const SET: u32 = 0x676e6573;
-
-    pub const GET: u32 = 0x676e6567;
-
-    // The three constants, held against the sheet.
-    pub fn head() -> Head
-        ensures { result ≡ head_of seng geng }
-    {
-        Head {
-            total: Eng::TOTAL,
-            set: Eng::SET,
-            get: Eng::GET,
-        }
-    }
-
-    pub fn decode(part: &[u8]) -> Eng
-        ensures { result ≡ eng_of (numbers_in eng_row part.now) }
-    {
-        Eng {
-            nomVoltage: wire::u16_at(part, 0),
-            nomCurrent: wire::u16_at(part, 2),
-            nomSpeed: wire::u32_at(part, 4),
-            uNomSpeed: wire::u8_at(part, 8),
-            engineFlags: wire::u16_at(part, 9),
-            antiplay: values::i16_at(part, 11),
-            microstepMode: wire::u8_at(part, 13),
-            stepsPerRev: wire::u16_at(part, 14),
-        }
-    }
-
     // The numbers of the fields as they stand on the wire.
     pub fn numbers(self) -> [u64; 8]
         ensures { result ≡ eng_numbers self }
     {
         [
-            self.nomVoltage as u64,
-            self.nomCurrent as u64,
-            self.nomSpeed as u64,
-            self.uNomSpeed as u64,
-            self.engineFlags as u64,
-            values::u16_of(self.antiplay) as u64,
-            self.microstepMode as u64,
-            self.stepsPerRev as u64,
+            self.nomVoltage.number(),
+            self.nomCurrent.number(),
+            self.nomSpeed.number(),
+            self.uNomSpeed.number(),
+            self.engineFlags.number(),
+            self.antiplay.number(),
+            self.microstepMode.number(),
+            self.stepsPerRev.number(),
         ]
     }
+}
 
-    pub fn encode(self, out: &mut [u8])
-        ensures { out.new ≡ sets out.old 0 (data_of eng_row (eng_numbers self)) }
-    {
-        let ns = self.numbers();
-        wire::lay(out, &[2, 2, 4, 1, 2, 2, 1, 2, 12], &ns)
+impl Section for Eng {
+    ghost sheet_row = { eng_row };
+
+    ghost of = { eng_of };
+
+    ghost to = { eng_numbers };
+
+    fn decode(part: &[u8]) -> Eng {
+        Eng {
+            nomVoltage: Number::read(part, 0),
+            nomCurrent: Number::read(part, 2),
+            nomSpeed: Number::read(part, 4),
+            uNomSpeed: Number::read(part, 8),
+            engineFlags: Number::read(part, 9),
+            antiplay: Number::read(part, 11),
+            microstepMode: Number::read(part, 13),
+            stepsPerRev: Number::read(part, 14),
+        }
     }
 
-    pub fn first_bad(self) -> usize
-        ensures { result ≡ first_bad eng_row (eng_numbers self) }
-    {
+    fn first_bad(self) -> Option<usize> {
         let ns = self.numbers();
         ranges::first_false(&[
             true,
@@ -94,22 +73,48 @@ impl Eng {
             ranges::is_within(1, 65535, ns[7]),
         ])
     }
+}
 
-    // Whether a data section is sound: its fields in their ranges, its reserved bytes zero. It is asked at every call, so it reads only what it tests.
-    pub fn is_sound(part: &[u8]) -> bool
-        ensures { result ≡ sound_in eng_row part.now }
-    {
-        ranges::is_within(15, 8000, wire::u16_at(part, 2) as u64)
-            & (ranges::is_within(1, 100000, wire::u32_at(part, 4) as u64)
-                & (ranges::has_only_bits(255, wire::u16_at(part, 9) as u64)
-                    & (ranges::is_within(1, 9, wire::u8_at(part, 13) as u64)
-                        & (ranges::is_within(1, 65535, wire::u16_at(part, 14) as u64)
-                            & ((wire::u64_at(part, 16) == 0) & (wire::u32_at(part, 24) == 0))))))
+impl Block for Eng {
+    ghost set = { seng };
+
+    ghost get = { geng };
+
+    const TOTAL: usize = 34;
+
+    const SET: u32 = 0x676e6573;
+
+    const GET: u32 = 0x676e6567;
+
+    ghost TOTAL = { total eng_row };
+
+    ghost SET = { seng.name };
+
+    ghost GET = { geng.name };
+
+    ghost total_fixed = { refl };
+
+    ghost set_fixed = { refl };
+
+    ghost get_fixed = { refl };
+
+    ghost rows = { (refl, refl) };
+
+    fn encode(self, out: &mut [u8]) {
+        let ns = self.numbers();
+        wire::lay(out, &[2, 2, 4, 1, 2, 2, 1, 2, 12], &ns)
     }
 
-    pub fn fresh() -> Eng
-        ensures { result ≡ eng_of (fresh eng_row) }
-    {
+    fn is_sound(part: &[u8]) -> bool {
+        ranges::is_within(15, 8000, u16::read(part, 2) as u64)
+            & (ranges::is_within(1, 100000, u32::read(part, 4) as u64)
+                & (ranges::has_only_bits(255, u16::read(part, 9) as u64)
+                    & (ranges::is_within(1, 9, u8::read(part, 13) as u64)
+                        & (ranges::is_within(1, 65535, u16::read(part, 14) as u64)
+                            & ((u64::read(part, 16) == 0) & (u32::read(part, 24) == 0))))))
+    }
+
+    fn fresh() -> Eng {
         Eng {
             nomVoltage: 0,
             nomCurrent: 15,

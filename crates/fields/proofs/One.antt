@@ -1,12 +1,12 @@
 -- Each public function's promise leaves one answer. Assumes nothing.
 use mathlib.Core.Path.{sym, ◌∙◌}
 use Rattle.promise.specs.Promise.{Leaves}
-use Rattle.fields.proofs.block_of.Reads as Block-of
-use Rattle.fields.proofs.first_bad.Reads as first-bad
-use Rattle.fields.proofs.encode.Reads as encode
-use Rattle.fields.proofs.decode.Reads as decode
+use Rattle.fields.proofs.Fields.block.Reads as block
+use Rattle.fields.proofs.Fields.first_bad.Reads as first-bad
+use Rattle.fields.proofs.Fields.encode.Reads as encode
+use Rattle.fields.proofs.Fields.decode.Reads as decode
 
-pub block_of_one : Leaves Block-of.Post (λ κs r s. r)
+pub block_of_one : Leaves block.Post (λ κs r s. r)
 block_of_one κs a r r' s s' p q = p ∙ sym q
 
 pub first_bad_one : Leaves first-bad.Post (λ κs r s. r)

@@ -3,6 +3,7 @@
 
 ghost use Rattle.std.specs.Prelude.{◌≡◌};
 ghost use Rattle.std.proofs.lemmas.List.Edits.{sets};
+ghost use Rattle.ranges.specs.Tests.{found};
 ghost use Rattle.fields.specs.Fields.{block_of, first_bad_of, section_of, fields_in};
 
 use brk::Brk;
@@ -13,6 +14,7 @@ use host::Block;
 use mov::Mov;
 use pid::Pid;
 use pwr::Pwr;
+use sheet::{Block as _, Section};
 
 #[derive(Clone, Copy)]
 pub enum Fields {
@@ -25,124 +27,63 @@ pub enum Fields {
     Pid(Pid),
 }
 
-pub fn block_of(fields: Fields) -> Block
-    ensures { result ≡ block_of fields }
-{
-    match fields {
-        Fields::Mov(_) => {
-            return Block::Mov;
-        }
-        Fields::Eng(_) => {
-            return Block::Eng;
-        }
-        Fields::Pwr(_) => {
-            return Block::Pwr;
-        }
-        Fields::Eds(_) => {
-            return Block::Eds;
-        }
-        Fields::Hom(_) => {
-            return Block::Hom;
-        }
-        Fields::Brk(_) => {
-            return Block::Brk;
-        }
-        Fields::Pid(_) => {
-            return Block::Pid;
+impl Fields {
+    // The fields that a data section of a block holds.
+    pub fn decode(block: Block, section: &[u8]) -> Fields
+        ensures { result ≡ fields_in block section.now }
+    {
+        match block {
+            Block::Mov => Fields::Mov(Mov::decode(section)),
+            Block::Eng => Fields::Eng(Eng::decode(section)),
+            Block::Pwr => Fields::Pwr(Pwr::decode(section)),
+            Block::Eds => Fields::Eds(Eds::decode(section)),
+            Block::Hom => Fields::Hom(Hom::decode(section)),
+            Block::Brk => Fields::Brk(Brk::decode(section)),
+            Block::Pid => Fields::Pid(Pid::decode(section)),
         }
     }
-}
 
-// The number of the first field out of its range, or 0: the board's own test.
-pub fn first_bad(fields: Fields) -> usize
-    ensures { result ≡ first_bad_of fields }
-{
-    match fields {
-        Fields::Mov(x) => {
-            return x.first_bad();
-        }
-        Fields::Eng(x) => {
-            return x.first_bad();
-        }
-        Fields::Pwr(x) => {
-            return x.first_bad();
-        }
-        Fields::Eds(x) => {
-            return x.first_bad();
-        }
-        Fields::Hom(x) => {
-            return x.first_bad();
-        }
-        Fields::Brk(x) => {
-            return x.first_bad();
-        }
-        Fields::Pid(x) => {
-            return x.first_bad();
+    pub fn block(self) -> Block
+        ensures { result ≡ block_of self }
+    {
+        match self {
+            Fields::Mov(_) => Block::Mov,
+            Fields::Eng(_) => Block::Eng,
+            Fields::Pwr(_) => Block::Pwr,
+            Fields::Eds(_) => Block::Eds,
+            Fields::Hom(_) => Block::Hom,
+            Fields::Brk(_) => Block::Brk,
+            Fields::Pid(_) => Block::Pid,
         }
     }
-}
 
-// The data section, at the front of out.
-pub fn encode(fields: Fields, out: &mut [u8])
-    ensures { out.new ≡ sets out.old 0 (section_of fields) }
-{
-    match fields {
-        Fields::Mov(x) => {
-            x.encode(out);
-            return;
-        }
-        Fields::Eng(x) => {
-            x.encode(out);
-            return;
-        }
-        Fields::Pwr(x) => {
-            x.encode(out);
-            return;
-        }
-        Fields::Eds(x) => {
-            x.encode(out);
-            return;
-        }
-        Fields::Hom(x) => {
-            x.encode(out);
-            return;
-        }
-        Fields::Brk(x) => {
-            x.encode(out);
-            return;
-        }
-        Fields::Pid(x) => {
-            x.encode(out);
-            return;
+    // The number of the first field out of its range: the board's own test.
+    pub fn first_bad(self) -> Option<usize>
+        ensures { result ≡ found (first_bad_of self) }
+    {
+        match self {
+            Fields::Mov(x) => x.first_bad(),
+            Fields::Eng(x) => x.first_bad(),
+            Fields::Pwr(x) => x.first_bad(),
+            Fields::Eds(x) => x.first_bad(),
+            Fields::Hom(x) => x.first_bad(),
+            Fields::Brk(x) => x.first_bad(),
+            Fields::Pid(x) => x.first_bad(),
         }
     }
-}
 
-// The fields that a data section of a block holds.
-pub fn decode(block: Block, section: &[u8]) -> Fields
-    ensures { result ≡ fields_in block section.now }
-{
-    match block {
-        Block::Mov => {
-            return Fields::Mov(Mov::decode(section));
-        }
-        Block::Eng => {
-            return Fields::Eng(Eng::decode(section));
-        }
-        Block::Pwr => {
-            return Fields::Pwr(Pwr::decode(section));
-        }
-        Block::Eds => {
-            return Fields::Eds(Eds::decode(section));
-        }
-        Block::Hom => {
-            return Fields::Hom(Hom::decode(section));
-        }
-        Block::Brk => {
-            return Fields::Brk(Brk::decode(section));
-        }
-        Block::Pid => {
-            return Fields::Pid(Pid::decode(section));
+    // The data section, at the front of out.
+    pub fn encode(self, out: &mut [u8])
+        ensures { out.new ≡ sets out.old 0 (section_of self) }
+    {
+        match self {
+            Fields::Mov(x) => x.encode(out),
+            Fields::Eng(x) => x.encode(out),
+            Fields::Pwr(x) => x.encode(out),
+            Fields::Eds(x) => x.encode(out),
+            Fields::Hom(x) => x.encode(out),
+            Fields::Brk(x) => x.encode(out),
+            Fields::Pid(x) => x.encode(out),
         }
     }
 }

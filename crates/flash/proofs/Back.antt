@@ -8,6 +8,7 @@ use lib.Dec.{eqb, ltb}
 use lib.ListN.{length, take, drop}
 use lib.Seq.{take_at}
 use borrow.Author.Tests.{eqb-true, eqb-false, eq-eqb, ne_eqb}
+use Rattle.std.specs.Prelude.{Result, Ok, ⊤}
 use Rattle.sheet.specs.Sheet.{sheet}
 use Rattle.table.specs.Places.{whole_of}
 use Rattle.table.specs.Table.{Good, all_good, fresh_table}
@@ -16,6 +17,9 @@ use Rattle.table.proofs.Keep.{joined, table_joined, good_all, good_fresh}
 use Rattle.unit.specs.Protocol.{fresh_state}
 use Rattle.state.specs.State.{board_of}
 use Rattle.state.specs.Sound.{sound_board, refusal_of}
+use Rattle.state.specs.Refused.{number_in, report_in}
+use Rattle.state.specs.declared.Refusal.{Refusal}
+use Rattle.state.proofs.Refused.{report_as}
 use Rattle.state.specs.declared.Board.{Board}
 use Rattle.state.specs.declared.Report.{Report}
 use Rattle.state.proofs.Boards.{refusal_none}
@@ -31,7 +35,7 @@ had_room : (b : Bool) (v : ℕ) → cond b 2 v ≡ 0 → v ≡ 0
 had_room true v z = absurd (omega arith)
 had_room false v z = z
 
-module _ (κs : _) (a : _) (n : ℕ) (s : _) (got : hand-out.Post κs a n s) where
+module _ (κs : _) (a : _) (x : Result ⊤ Refusal) (s : _) (got : hand-out.Post κs a x s) where
   abbrev board : Board
   board = a.0
 
@@ -39,10 +43,10 @@ module _ (κs : _) (a : _) (n : ℕ) (s : _) (got : hand-out.Post κs a n s) whe
   number = out_number board (length a.1.0.now)
 
   -- A REFUSAL WRITES NOTHING
-  pub refused_stays : (n ≡ 0 → ⊥) → s.1.0.now ≡ a.1.0.now
+  pub refused_stays : (number_in x ≡ 0 → ⊥) → s.1.0.now ≡ a.1.0.now
   refused_stays other = got.1 ∙ rw (ne_eqb number 0 (λ z. other (got.0 ∙ z)))
 
-  module _ (zero : n ≡ 0) where
+  module _ (zero : number_in x ≡ 0) where
     sound : Good board.memory.settings
     sound = settings_good board (had_room (ltb (length a.1.0.now) (whole_of sheet)) (refusal_of board) (sym got.0 ∙ zero))
 
@@ -58,12 +62,16 @@ module _ (κs : _) (a : _) (n : ℕ) (s : _) (got : hand-out.Post κs a n s) whe
     pub handed_blocks : take (whole_of sheet) s.1.0.now ≡ joined sheet board.memory.settings
     handed_blocks = handed_front ∙ sym (table_joined board.memory.settings sound.0)
 
-    -- WHAT WAS HANDED OUT COMES BACK
-    pub comes_back : (κs' : _) (a' : _) (r : Report) (s' : _) → take_back.Post κs' a' r s' → a'.0.now ≡ take (whole_of sheet) s.1.0.now
-        → r ≡ record { number = 0; board = with_settings (board_of fresh_state) board.memory.settings }
-    comes_back κs' a' r s' is stored =
+    pub back_is : (stored : List ℕ) → stored ≡ take (whole_of sheet) s.1.0.now
+        → taken_back stored ≡ record { number = 0; board = with_settings (board_of fresh_state) board.memory.settings }
+    back_is stored e =
         let t = board.memory.settings in
-        is ∙ ap taken_back (stored ∙ handed_front) ∙ back_taken t.bytes sound.0 (good_all t sound)
+        ap taken_back (e ∙ handed_front) ∙ back_taken t.bytes sound.0 (good_all t sound)
+
+    -- WHAT WAS HANDED OUT COMES BACK
+    pub comes_back : (κs' : _) (a' : _) (y : Result Board Refusal) (s' : _) → take_back.Post κs' a' y s' → a'.0.now ≡ take (whole_of sheet) s.1.0.now
+        → y ≡ Ok (with_settings (board_of fresh_state) board.memory.settings)
+    comes_back κs' a' y s' is stored = report_as (board_of fresh_state) y _ (is ∙ back_is a'.0.now stored)
 
 -- ---- A BOARD THAT IS TAKEN BACK IS SOUND, refused or not
 
@@ -80,5 +88,6 @@ taken_sound t = by (eqb (length t) (whole_of sheet)) (all_good (record { bytes =
     by true false e f = ap sound_in (back_unsound t (eqb-true _ _ e) f) ∙ with_sound fresh_table ∙ good_all fresh_table good_fresh
     by false g e f = ap sound_in (back_length t (eqb-false _ _ e)) ∙ with_sound fresh_table ∙ good_all fresh_table good_fresh
 
-pub back_sound : (κs : _) (a : _) (r : Report) (s : _) → take_back.Post κs a r s → refusal_of r.board ≡ 0
-back_sound κs a r s is = refusal_none r.board (ap sound_in is ∙ taken_sound a.0.now)
+pub back_sound : (κs : _) (a : _) (x : Result Board Refusal) (s : _) → take_back.Post κs a x s
+    → refusal_of (report_in (board_of fresh_state) x).board ≡ 0
+back_sound κs a x s is = refusal_none (report_in (board_of fresh_state) x).board (ap sound_in is ∙ taken_sound a.0.now)

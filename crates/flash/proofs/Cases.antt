@@ -38,9 +38,6 @@ module _ (b : Board) (out : List ℕ) where
   out_short h = rw (lt-ltb (length out) (whole_of sheet) h) (refl, refl)
 
   module _ (room : whole_of sheet ≤ length out) where
-    pub out_refused : (n : ℕ) → n ≡ refusal_of b → (n ≡ 0 → ⊥) → Promised n out
-    out_refused n e h = rw (le-ltb (length out) (whole_of sheet) room, ne_eqb (refusal_of b) 0 (λ z. h (e ∙ z))) (e, refl)
-
     pub out_handed : refusal_of b ≡ 0 → Promised 0 (sets out 0 b.memory.settings.bytes)
     out_handed z =
         let t = b.memory.settings.bytes in

@@ -2,62 +2,44 @@
 #![tactic(auto)]
 
 ghost use Rattle.std.specs.Prelude.{◌≡◌, length};
-ghost use Rattle.flash.specs.Flash.{out_number, handed, with_settings, taken_back};
+ghost use Rattle.unit.specs.Protocol.{fresh_state};
+ghost use Rattle.state.specs.State.{board_of};
+ghost use Rattle.state.specs.Refused.{number_in, report_in};
+ghost use Rattle.flash.specs.Flash.{out_number, handed, taken_back};
 
-use state::{Board, Report};
+use state::{Board, Refusal};
 use table::Table;
+use unit::Memory;
 
 // The table of a board's settings, written to the front of out; a refusal writes nothing.
-pub fn hand_out(board: Board, out: &mut [u8]) -> u8
-    ensures { (result ≡ out_number board (length out.old)) × (out.new ≡ handed board out.old) }
+pub fn hand_out(board: Board, out: &mut [u8]) -> Result<(), Refusal>
+    ensures { (number_in result ≡ out_number board (length out.old)) × (out.new ≡ handed board out.old) }
 {
     if out.len() < table::SIZE {
-        return 2;
+        return Err(Refusal::Room);
     }
-    let verdict = state::judge(board);
-    let number = verdict.number;
-    if number != 0 {
-        return number;
-    }
-    let memory = board.memory;
-    let settings = memory.settings;
-    let t = settings.bytes;
-    wire::copy(out, 0, &t);
-    0
+    board.judge()?;
+    wire::copy(out, 0, &board.memory.settings.bytes);
+    Ok(())
 }
 
-// The board with these settings, and all else as it was.
-fn with_settings(board: Board, settings: Table) -> Board
-    ensures { result ≡ with_settings board settings }
+// A board of a stored table, and all else fresh.
+pub fn take_back(bytes: &[u8]) -> Result<Board, Refusal>
+    ensures { report_in (board_of fresh_state) result ≡ taken_back bytes.now }
 {
-    let mut memory = board.memory;
-    memory.settings = settings;
-    let mut next = board;
-    next.memory = memory;
-    next
-}
-
-// A board of a stored table; a fresh one where the table is refused.
-pub fn take_back(bytes: &[u8]) -> Report
-    ensures { result ≡ taken_back bytes.now }
-{
-    let fresh = state::fresh();
     if bytes.len() != table::SIZE {
-        return Report {
-            number: 1,
-            board: fresh,
-        };
+        return Err(Refusal::Length);
     }
-    let mut t = [0u8; table::SIZE];
-    wire::copy(&mut t, 0, bytes);
-    let board = with_settings(fresh, Table { bytes: t });
-    let verdict = state::judge(board);
-    let refusal = verdict.number;
-    if refusal != 0 {
-        return Report {
-            number: refusal,
-            board: fresh,
-        };
-    }
-    Report { number: 0, board }
+    let fresh = Board::fresh();
+    let mut settings = Table {
+        bytes: [0u8; table::SIZE],
+    };
+    wire::copy(&mut settings.bytes, 0, bytes);
+    let memory = Memory {
+        settings,
+        ..fresh.memory
+    };
+    let taken = Board { memory, ..fresh };
+    taken.judge()?;
+    Ok(taken)
 }

@@ -1,13 +1,13 @@
 -- Each public function's promise leaves one answer. Assumes nothing.
 use mathlib.Core.Path.{sym, ◌∙◌}
 use Rattle.promise.specs.Promise.{Leaves}
-use Rattle.hom.proofs.Hom.head.Reads as head
-use Rattle.hom.proofs.Hom.decode.Reads as decode
+use Rattle.hom.proofs.HomBlock.head.Reads as head
+use Rattle.hom.proofs.HomSection.decode.Reads as decode
 use Rattle.hom.proofs.Hom.numbers.Reads as numbers
-use Rattle.hom.proofs.Hom.encode.Reads as encode
-use Rattle.hom.proofs.Hom.first_bad.Reads as first-bad
-use Rattle.hom.proofs.Hom.is_sound.Reads as is-sound
-use Rattle.hom.proofs.Hom.fresh.Reads as fresh
+use Rattle.hom.proofs.HomBlock.encode.Reads as encode
+use Rattle.hom.proofs.HomSection.first_bad.Reads as first-bad
+use Rattle.hom.proofs.HomBlock.is_sound.Reads as is-sound
+use Rattle.hom.proofs.HomBlock.fresh.Reads as fresh
 
 pub head_one : Leaves head.Post (λ κs r s. r)
 head_one κs a r r' s s' p q = p ∙ sym q

@@ -1,6 +1,6 @@
 -- The names of 01, for the host: seven blocks and seven orders, each by its number. What joins the board later has no place here (02, P1:
 -- "later commands stay outside").
-use Rattle.std.specs.Prelude.{List, [], ◌∷◌, map, ℕ, get_or}
+use Rattle.std.specs.Prelude.{List, [], ◌∷◌, map, ℕ, get_or, Option, Some, None}
 use Rattle.keyed.specs.Keyed.{value_in}
 use Rattle.sheet.specs.Names.{named}
 use Rattle.sheet.specs.Sheet.{Row, mov_row, eng_row, pwr_row, eds_row, hom_row, brk_row, pid_row}
@@ -9,10 +9,6 @@ use Rattle.host.specs.declared.Block.{Block}
 use Rattle.host.specs.declared.Block.TheVariants.{Mov, Eng, Pwr, Eds, Hom, Brk, Pid}
 use Rattle.host.specs.declared.Order.{Order}
 use Rattle.host.specs.declared.Order.TheVariants.{Stop, Sstp, Pwof, Left, Rigt, Home, Loft}
-use Rattle.host.specs.declared.FoundBlock.{FoundBlock}
-use Rattle.host.specs.declared.FoundBlock.TheVariants as block
-use Rattle.host.specs.declared.FoundOrder.{FoundOrder}
-use Rattle.host.specs.declared.FoundOrder.TheVariants as order
 
 -- ---- blocks
 
@@ -51,8 +47,8 @@ abbrev pub block_number : Block → ℕ
 block_number b = (row_of b).number
 
 -- the block of a number; 0 and any other number are nobody's
-abbrev pub block_at : ℕ → FoundBlock
-block_at n = get_or (block.Nobody ∷ map block.Known block_list) n block.Nobody
+abbrev pub block_at : ℕ → Option Block
+block_at n = get_or (None ∷ map Some block_list) n None
 
 -- ---- orders
 
@@ -78,8 +74,8 @@ order_number Rigt = 5
 order_number Home = 6
 order_number Loft = 7
 
-abbrev pub order_at : ℕ → FoundOrder
-order_at n = get_or (order.Nobody ∷ map order.Known order_list) n order.Nobody
+abbrev pub order_at : ℕ → Option Order
+order_at n = get_or (None ∷ map Some order_list) n None
 
 -- ---- the number that has a name, or 0
 

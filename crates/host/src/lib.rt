@@ -12,271 +12,164 @@ use hom::Hom;
 use mov::Mov;
 use pid::Pid;
 use pwr::Pwr;
-use sheet::{Head, names};
+use sheet::{Block as _, Head, names};
 
 // The longest frame of these, set or answer; a board's later commands may have longer ones.
 pub const FRAME: usize = 48;
 
-#[derive(Clone, Copy)]
+// 01's blocks, by their numbers.
+#[derive(Clone, Copy, Debug, PartialEq, Eq)]
 pub enum Block {
-    Mov,
-    Eng,
-    Pwr,
-    Eds,
-    Hom,
-    Brk,
-    Pid,
+    Mov = 1,
+    Eng = 2,
+    Pwr = 3,
+    Eds = 4,
+    Hom = 5,
+    Brk = 6,
+    Pid = 7,
 }
 
-#[derive(Clone, Copy)]
+// 01's orders, by their numbers.
+#[derive(Clone, Copy, Debug, PartialEq, Eq)]
 pub enum Order {
-    Stop,
-    Sstp,
-    Pwof,
-    Left,
-    Rigt,
-    Home,
-    Loft,
+    Stop = 1,
+    Sstp = 2,
+    Pwof = 3,
+    Left = 4,
+    Rigt = 5,
+    Home = 6,
+    Loft = 7,
 }
 
-// The block or the order of a number, which may be nobody's.
-#[derive(Clone, Copy)]
-pub enum FoundBlock {
-    Known(Block),
-    Nobody,
-}
-
-#[derive(Clone, Copy)]
-pub enum FoundOrder {
-    Known(Order),
-    Nobody,
-}
-
-// The names of 01 as lists, in the sequence of their numbers.
-const SET_NAMES: [usize; 7] = [
-    Mov::SET as usize,
-    Eng::SET as usize,
-    Pwr::SET as usize,
-    Eds::SET as usize,
-    Hom::SET as usize,
-    Brk::SET as usize,
-    Pid::SET as usize,
+// The names of 01, each with its block or order.
+const SETS: [(u32, Block); 7] = [
+    (Mov::SET, Block::Mov),
+    (Eng::SET, Block::Eng),
+    (Pwr::SET, Block::Pwr),
+    (Eds::SET, Block::Eds),
+    (Hom::SET, Block::Hom),
+    (Brk::SET, Block::Brk),
+    (Pid::SET, Block::Pid),
 ];
 
-const GET_NAMES: [usize; 7] = [
-    Mov::GET as usize,
-    Eng::GET as usize,
-    Pwr::GET as usize,
-    Eds::GET as usize,
-    Hom::GET as usize,
-    Brk::GET as usize,
-    Pid::GET as usize,
+const GETS: [(u32, Block); 7] = [
+    (Mov::GET, Block::Mov),
+    (Eng::GET, Block::Eng),
+    (Pwr::GET, Block::Pwr),
+    (Eds::GET, Block::Eds),
+    (Hom::GET, Block::Hom),
+    (Brk::GET, Block::Brk),
+    (Pid::GET, Block::Pid),
 ];
 
-const ORDER_NAMES: [usize; 7] = [
-    names::STOP as usize,
-    names::SSTP as usize,
-    names::PWOF as usize,
-    names::LEFT as usize,
-    names::RIGT as usize,
-    names::HOME as usize,
-    names::LOFT as usize,
+const ORDERS: [(u32, Order); 7] = [
+    (names::STOP, Order::Stop),
+    (names::SSTP, Order::Sstp),
+    (names::PWOF, Order::Pwof),
+    (names::LEFT, Order::Left),
+    (names::RIGT, Order::Rigt),
+    (names::HOME, Order::Home),
+    (names::LOFT, Order::Loft),
 ];
 
-const NUMBERS: [usize; 7] = [1, 2, 3, 4, 5, 6, 7];
+// Blocks and orders are looked up alike, each in its own table: one function for both would be told which, by each caller.
+impl Block {
+    // The block that has this number.
+    pub fn at(number: usize) -> Option<Block>
+        ensures { result ≡ block_at number }
+    {
+        match number {
+            1 => Some(Block::Mov),
+            2 => Some(Block::Eng),
+            3 => Some(Block::Pwr),
+            4 => Some(Block::Eds),
+            5 => Some(Block::Hom),
+            6 => Some(Block::Brk),
+            7 => Some(Block::Pid),
+            _ => None, // no block's number
+        }
+    }
 
-// A block's total length and names.
-pub fn head_of(block: Block) -> Head
-    ensures { result ≡ head_of (set_of block) (get_of block) }
-{
-    match block {
-        Block::Mov => {
-            return Mov::head();
-        }
-        Block::Eng => {
-            return Eng::head();
-        }
-        Block::Pwr => {
-            return Pwr::head();
-        }
-        Block::Eds => {
-            return Eds::head();
-        }
-        Block::Hom => {
-            return Hom::head();
-        }
-        Block::Brk => {
-            return Brk::head();
-        }
-        Block::Pid => {
-            return Pid::head();
+    // The block that has this set name, and the block that has this get name.
+    pub fn set_named(name: u32) -> Option<Block>
+        ensures { result ≡ block_at (set_named name) }
+    {
+        keyed::value_of(name, &SETS)
+    }
+
+    pub fn get_named(name: u32) -> Option<Block>
+        ensures { result ≡ block_at (get_named name) }
+    {
+        keyed::value_of(name, &GETS)
+    }
+
+    // Its total length and names.
+    pub fn head(self) -> Head
+        ensures { result ≡ head_of (set_of self) (get_of self) }
+    {
+        match self {
+            Block::Mov => Mov::head(),
+            Block::Eng => Eng::head(),
+            Block::Pwr => Pwr::head(),
+            Block::Eds => Eds::head(),
+            Block::Hom => Hom::head(),
+            Block::Brk => Brk::head(),
+            Block::Pid => Pid::head(),
         }
     }
 }
 
-pub fn order_name(order: Order) -> u32
-    ensures { result ≡ order_name order }
-{
-    match order {
-        Order::Stop => {
-            return names::STOP;
+impl From<Block> for u8 {
+    ghost from_gives = { λ block number. number ≡ block_number block };
+
+    fn from(block: Block) -> u8 {
+        block as u8
+    }
+}
+
+impl Order {
+    // The order that has this number.
+    pub fn at(number: usize) -> Option<Order>
+        ensures { result ≡ order_at number }
+    {
+        match number {
+            1 => Some(Order::Stop),
+            2 => Some(Order::Sstp),
+            3 => Some(Order::Pwof),
+            4 => Some(Order::Left),
+            5 => Some(Order::Rigt),
+            6 => Some(Order::Home),
+            7 => Some(Order::Loft),
+            _ => None, // no order's number
         }
-        Order::Sstp => {
-            return names::SSTP;
-        }
-        Order::Pwof => {
-            return names::PWOF;
-        }
-        Order::Left => {
-            return names::LEFT;
-        }
-        Order::Rigt => {
-            return names::RIGT;
-        }
-        Order::Home => {
-            return names::HOME;
-        }
-        Order::Loft => {
-            return names::LOFT;
+    }
+
+    // The order that has this name.
+    pub fn named(name: u32) -> Option<Order>
+        ensures { result ≡ order_at (order_named name) }
+    {
+        keyed::value_of(name, &ORDERS)
+    }
+
+    pub fn name(self) -> u32
+        ensures { result ≡ order_name self }
+    {
+        match self {
+            Order::Stop => names::STOP,
+            Order::Sstp => names::SSTP,
+            Order::Pwof => names::PWOF,
+            Order::Left => names::LEFT,
+            Order::Rigt => names::RIGT,
+            Order::Home => names::HOME,
+            Order::Loft => names::LOFT,
         }
     }
 }
 
-// 01's number of a block, and of an order.
-pub fn block_number(block: Block) -> u8
-    ensures { result ≡ block_number block }
-{
-    match block {
-        Block::Mov => {
-            return 1;
-        }
-        Block::Eng => {
-            return 2;
-        }
-        Block::Pwr => {
-            return 3;
-        }
-        Block::Eds => {
-            return 4;
-        }
-        Block::Hom => {
-            return 5;
-        }
-        Block::Brk => {
-            return 6;
-        }
-        Block::Pid => {
-            return 7;
-        }
+impl From<Order> for u8 {
+    ghost from_gives = { λ order number. number ≡ order_number order };
+
+    fn from(order: Order) -> u8 {
+        order as u8
     }
-}
-
-pub fn order_number(order: Order) -> u8
-    ensures { result ≡ order_number order }
-{
-    match order {
-        Order::Stop => {
-            return 1;
-        }
-        Order::Sstp => {
-            return 2;
-        }
-        Order::Pwof => {
-            return 3;
-        }
-        Order::Left => {
-            return 4;
-        }
-        Order::Rigt => {
-            return 5;
-        }
-        Order::Home => {
-            return 6;
-        }
-        Order::Loft => {
-            return 7;
-        }
-    }
-}
-
-// The block that has this number, and the order.
-pub fn block_at(number: usize) -> FoundBlock
-    ensures { result ≡ block_at number }
-{
-    match number {
-        1 => {
-            return FoundBlock::Known(Block::Mov);
-        }
-        2 => {
-            return FoundBlock::Known(Block::Eng);
-        }
-        3 => {
-            return FoundBlock::Known(Block::Pwr);
-        }
-        4 => {
-            return FoundBlock::Known(Block::Eds);
-        }
-        5 => {
-            return FoundBlock::Known(Block::Hom);
-        }
-        6 => {
-            return FoundBlock::Known(Block::Brk);
-        }
-        7 => {
-            return FoundBlock::Known(Block::Pid);
-        }
-        _ => {
-            return FoundBlock::Nobody;
-        }
-    }
-}
-
-pub fn order_at(number: usize) -> FoundOrder
-    ensures { result ≡ order_at number }
-{
-    match number {
-        1 => {
-            return FoundOrder::Known(Order::Stop);
-        }
-        2 => {
-            return FoundOrder::Known(Order::Sstp);
-        }
-        3 => {
-            return FoundOrder::Known(Order::Pwof);
-        }
-        4 => {
-            return FoundOrder::Known(Order::Left);
-        }
-        5 => {
-            return FoundOrder::Known(Order::Rigt);
-        }
-        6 => {
-            return FoundOrder::Known(Order::Home);
-        }
-        7 => {
-            return FoundOrder::Known(Order::Loft);
-        }
-        _ => {
-            return FoundOrder::Nobody;
-        }
-    }
-}
-
-// The number of the block that has this set name, of the block that has this get name, of the order that has this name; or 0.
-pub fn set_named(name: u32) -> usize
-    ensures { result ≡ set_named name }
-{
-    keyed::value_of(name as usize, &SET_NAMES, &NUMBERS, 0)
-}
-
-pub fn get_named(name: u32) -> usize
-    ensures { result ≡ get_named name }
-{
-    keyed::value_of(name as usize, &GET_NAMES, &NUMBERS, 0)
-}
-
-pub fn order_named(name: u32) -> usize
-    ensures { result ≡ order_named name }
-{
-    keyed::value_of(name as usize, &ORDER_NAMES, &NUMBERS, 0)
 }

@@ -1,13 +1,13 @@
 -- Each public function's promise leaves one answer. Assumes nothing.
 use mathlib.Core.Path.{sym, ◌∙◌}
 use Rattle.promise.specs.Promise.{Leaves}
-use Rattle.joy.proofs.Joy.head.Reads as head
-use Rattle.joy.proofs.Joy.decode.Reads as decode
+use Rattle.joy.proofs.JoyBlock.head.Reads as head
+use Rattle.joy.proofs.JoySection.decode.Reads as decode
 use Rattle.joy.proofs.Joy.numbers.Reads as numbers
-use Rattle.joy.proofs.Joy.encode.Reads as encode
-use Rattle.joy.proofs.Joy.first_bad.Reads as first-bad
-use Rattle.joy.proofs.Joy.is_sound.Reads as is-sound
-use Rattle.joy.proofs.Joy.fresh.Reads as fresh
+use Rattle.joy.proofs.JoyBlock.encode.Reads as encode
+use Rattle.joy.proofs.JoySection.first_bad.Reads as first-bad
+use Rattle.joy.proofs.JoyBlock.is_sound.Reads as is-sound
+use Rattle.joy.proofs.JoyBlock.fresh.Reads as fresh
 
 pub head_one : Leaves head.Post (λ κs r s. r)
 head_one κs a r r' s s' p q = p ∙ sym q

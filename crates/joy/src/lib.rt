@@ -1,14 +1,13 @@
 // Block 12, joy (02, P6).
 #![tactic(auto)]
 
-ghost use Rattle.std.specs.Prelude.{◌&&◌, ◌≡◌, leb};
-ghost use Rattle.std.proofs.lemmas.List.Edits.{sets};
+ghost use Rattle.std.specs.Prelude.{◌&&◌, ◌≡◌, leb, refl};
 ghost use Rattle.sheet.specs.Sheet.{joy_row, sjoy, gjoy};
-ghost use Rattle.sheet.specs.Rows.{head_of, numbers_in, data_of, first_bad, fresh};
-ghost use Rattle.sheet.specs.Sections.{sound_in};
+ghost use Rattle.sheet.specs.Rows.{total};
 ghost use Rattle.joy.specs.Joy.{joy_of, joy_numbers};
 
-use sheet::Head;
+use sheet::{Block, Section};
+use wire::Number;
 
 #[repr(C)]
 #[derive(Clone, Copy)]
@@ -29,60 +28,40 @@ fn in_sequence(low: u64, centre: u64, high: u64) -> bool
 }
 
 impl Joy {
-    pub const TOTAL: usize = 22;
-
-    pub const SET: u32 = 0x796f6a73;
-
-    pub const GET: u32 = 0x796f6a67;
-
-    // The three constants, held against the sheet.
-    pub fn head() -> Head
-        ensures { result ≡ head_of sjoy gjoy }
-    {
-        Head {
-            total: Joy::TOTAL,
-            set: Joy::SET,
-            get: Joy::GET,
-        }
-    }
-
-    pub fn decode(part: &[u8]) -> Joy
-        ensures { result ≡ joy_of (numbers_in joy_row part.now) }
-    {
-        Joy {
-            joyLowEnd: wire::u16_at(part, 0),
-            joyCenter: wire::u16_at(part, 2),
-            joyHighEnd: wire::u16_at(part, 4),
-            expFactor: wire::u8_at(part, 6),
-            deadZone: wire::u8_at(part, 7),
-            joyFlags: wire::u8_at(part, 8),
-        }
-    }
-
     // The numbers of the fields as they stand on the wire.
     pub fn numbers(self) -> [u64; 6]
         ensures { result ≡ joy_numbers self }
     {
         [
-            self.joyLowEnd as u64,
-            self.joyCenter as u64,
-            self.joyHighEnd as u64,
-            self.expFactor as u64,
-            self.deadZone as u64,
-            self.joyFlags as u64,
+            self.joyLowEnd.number(),
+            self.joyCenter.number(),
+            self.joyHighEnd.number(),
+            self.expFactor.number(),
+            self.deadZone.number(),
+            self.joyFlags.number(),
         ]
     }
+}
 
-    pub fn encode(self, out: &mut [u8])
-        ensures { out.new ≡ sets out.old 0 (data_of joy_row (joy_numbers self)) }
-    {
-        let ns = self.numbers();
-        wire::lay(out, &[2, 2, 2, 1, 1, 1, 7], &ns)
+impl Section for Joy {
+    ghost sheet_row = { joy_row };
+
+    ghost of = { joy_of };
+
+    ghost to = { joy_numbers };
+
+    fn decode(part: &[u8]) -> Joy {
+        Joy {
+            joyLowEnd: Number::read(part, 0),
+            joyCenter: Number::read(part, 2),
+            joyHighEnd: Number::read(part, 4),
+            expFactor: Number::read(part, 6),
+            deadZone: Number::read(part, 7),
+            joyFlags: Number::read(part, 8),
+        }
     }
 
-    pub fn first_bad(self) -> usize
-        ensures { result ≡ first_bad joy_row (joy_numbers self) }
-    {
+    fn first_bad(self) -> Option<usize> {
         let ns = self.numbers();
         let bad = ranges::first_false(&[
             ranges::is_within(0, 10000, ns[0]),
@@ -94,28 +73,52 @@ impl Joy {
         ]);
         ranges::ruled(bad, in_sequence(ns[0], ns[1], ns[2]))
     }
+}
 
-    // Whether a data section is sound: its fields in their ranges, its rule kept, its reserved bytes zero. It is asked at every call, so it reads only
-    // what it tests.
-    pub fn is_sound(part: &[u8]) -> bool
-        ensures { result ≡ sound_in joy_row part.now }
-    {
-        let low = wire::u16_at(part, 0) as u64;
-        let centre = wire::u16_at(part, 2) as u64;
-        let high = wire::u16_at(part, 4) as u64;
+impl Block for Joy {
+    ghost set = { sjoy };
+
+    ghost get = { gjoy };
+
+    const TOTAL: usize = 22;
+
+    const SET: u32 = 0x796f6a73;
+
+    const GET: u32 = 0x796f6a67;
+
+    ghost TOTAL = { total joy_row };
+
+    ghost SET = { sjoy.name };
+
+    ghost GET = { gjoy.name };
+
+    ghost total_fixed = { refl };
+
+    ghost set_fixed = { refl };
+
+    ghost get_fixed = { refl };
+
+    ghost rows = { (refl, refl) };
+
+    fn encode(self, out: &mut [u8]) {
+        let ns = self.numbers();
+        wire::lay(out, &[2, 2, 2, 1, 1, 1, 7], &ns)
+    }
+
+    fn is_sound(part: &[u8]) -> bool {
+        let low = u16::read(part, 0) as u64;
+        let centre = u16::read(part, 2) as u64;
+        let high = u16::read(part, 4) as u64;
         ranges::is_within(0, 10000, low)
             & (ranges::is_within(0, 10000, centre)
                 & (ranges::is_within(0, 10000, high)
-                    & (ranges::has_only_bits(0x01, wire::u8_at(part, 8) as u64)
+                    & (ranges::has_only_bits(0x01, u8::read(part, 8) as u64)
                         & (in_sequence(low, centre, high)
-                            & ((wire::u32_at(part, 9) == 0)
-                                & ((wire::u16_at(part, 13) == 0)
-                                    & (wire::u8_at(part, 15) == 0)))))))
+                            & ((u32::read(part, 9) == 0)
+                                & ((u16::read(part, 13) == 0) & (u8::read(part, 15) == 0)))))))
     }
 
-    pub fn fresh() -> Joy
-        ensures { result ≡ joy_of (fresh joy_row) }
-    {
+    fn fresh() -> Joy {
         Joy {
             joyLowEnd: 0,
             joyCenter: 0,

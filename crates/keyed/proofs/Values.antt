@@ -1,37 +1,40 @@
--- Laws of the value beside a key: walked from the front, and what a value found says. Assumes nothing.
+-- Laws of the value beside a key: in two lists and in a list of pairs, and what a value found says. Assumes nothing.
+use Rattle.std.specs.Prelude.{Option, Some, None, nat_eq, option_map, unwrap_or}
+use Rattle.std.specs.List.{find, zip}
 use mathlib.Core.Path.{◌≡◌, refl, sym, subst}
 use mathlib.Core.Bool.{Bool, true, false, cond}
 use mathlib.Core.List.{List, [], ◌∷◌, map}
-use Prim.Native.Nat.{ℕ, ◌+◌, ◌≤◌, ◌<◌}
-use native.Mathlib.Numerals.{add-one}
+use Prim.Native.Nat.{ℕ, ◌<◌}
 use native.Mathlib.Omega.{arith}
 use lib.Dec.{T, eqb}
-use lib.ListN.{length, get_or, drop, drop_of_length-le}
-use lib.Seq.{drop-cons}
-use borrow.Author.Tests.{eq-eqb, ne_eqb, eqb-true}
-use Rattle.keyed.specs.Keyed.{value_in}
-use Rattle.keyed.proofs.Every.{all, first, rest}
+use borrow.Author.Tests.{eqb-true}
+use Rattle.keyed.specs.Keyed.{value_in, value_beside}
+use Rattle.keyed.proofs.Every.{all, first, rest, same_first, same_rest}
 
-no_value : (k d : ℕ) (ks : List ℕ) → value_in k ks [] d ≡ d
+-- the value in two lists is the one in the list of their pairs, which is as long as the shorter of them; or d
+pub value_zip : (k d : ℕ) (ks vs : List ℕ) → value_in k ks vs d ≡ unwrap_or (value_beside nat_eq k (zip ks vs)) d
 unfolding value_in
-no_value k d [] = refl
-no_value k d (a ∷ ks) = refl
+value_zip k d [] vs = refl
+value_zip k d (a ∷ ks) [] = refl
+value_zip k d (a ∷ ks) (v ∷ vs) = by (eqb k a) (value_zip k d ks vs)
+  where
+    by : (b : Bool) → value_in k ks vs d ≡ unwrap_or (value_beside nat_eq k (zip ks vs)) d
+        → cond b v (value_in k ks vs d) ≡ unwrap_or (option_map (λ (p : ℕ × ℕ). p.1) (cond b (Some (a, v)) (find (λ p. nat_eq k p.0) (zip ks vs)))) d
+    by true later = refl
+    by false later = later
 
-module _ (k d : ℕ) (ks vs : List ℕ) (i : ℕ) where
-  pub value_here : i < length ks → i < length vs → k ≡ get_or ks i 0 → value_in k (drop i ks) (drop i vs) d ≡ get_or vs i 0
-  unfolding value_in
-  value_here h j e = rw (drop-cons ks i 0 h, drop-cons vs i 0 j, eq-eqb k (get_or ks i 0) e)
-
-  pub value_later : i < length ks → i < length vs → (k ≡ get_or ks i 0 → ⊥) → value_in k (drop i ks) (drop i vs) d ≡ value_in k (drop (i + 1) ks) (drop (i + 1) vs) d
-  unfolding value_in
-  value_later h j e = rw (drop-cons ks i 0 h, drop-cons vs i 0 j, ne_eqb k (get_or ks i 0) e, add-one i)
-
-  pub value_none : length ks ≤ i → value_in k (drop i ks) (drop i vs) d ≡ d
-  unfolding value_in
-  value_none h = rw (drop_of_length-le ks h)
-
-  pub value_short : length vs ≤ i → value_in k (drop i ks) (drop i vs) d ≡ d
-  value_short h = rw (drop_of_length-le vs h) (no_value k d (drop i ks))
+-- what f makes of a value in two lists is what stands beside the key in pairs, where f makes Some of each value and None of d
+pub value_as : {V : Type 0} (f : ℕ → Option V) (k d : ℕ) (vs : List ℕ) (ps : List (ℕ × V)) → f d ≡ None → map f vs ≡ map (λ p. Some p.1) ps
+    → f (value_in k (map (λ p. p.0) ps) vs d) ≡ value_beside nat_eq k ps
+unfolding value_in
+value_as f k d vs [] none e = none
+value_as f k d [] (p ∷ ps) none e = cc
+value_as f k d (v ∷ vs) (p ∷ ps) none e = by (eqb k p.0) (same_first e) (value_as f k d vs ps none (same_rest e))
+  where
+    by : (b : Bool) → f v ≡ Some p.1 → f (value_in k (map (λ p. p.0) ps) vs d) ≡ value_beside nat_eq k ps
+        → f (cond b v (value_in k (map (λ p. p.0) ps) vs d)) ≡ option_map (λ p. p.1) (cond b (Some p) (find (λ p. nat_eq k p.0) ps))
+    by true here later = here
+    by false here later = later
 
 -- a test that passes of all values and of none's passes of the value found
 pub value_all : (f : ℕ → Bool) (k d : ℕ) (ks vs : List ℕ) → T (f d) → T (all f vs) → T (f (value_in k ks vs d))

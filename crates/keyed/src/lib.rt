@@ -1,22 +1,12 @@
-// A look-up for both ends of the line: a list of keys, and beside each key its value. Its proof does not grow with the lists.
+// A look-up for both ends of the line: a list of keys, each with its value beside it. Its proof does not grow with the lists.
 #![tactic(auto)]
 
 ghost use Rattle.std.specs.Prelude.{◌≡◌};
-ghost use Rattle.keyed.specs.Keyed.{value_in};
+ghost use Rattle.keyed.specs.Keyed.{value_beside};
 
-// The value beside the first of the keys that is the key; else the value of none.
-pub fn value_of(key: usize, keys: &[usize], values: &[usize], none: usize) -> usize
-    ensures { result ≡ value_in key keys.now values.now none }
+// The value beside the first of the keys that is the key.
+pub fn value_of<K: Copy + Eq, V: Copy>(key: K, pairs: &[(K, V)]) -> Option<V>
+    ensures { result ≡ value_beside K.eq key pairs.now }
 {
-    let mut i = 0;
-    while i < keys.len() {
-        if values.len() <= i {
-            return none;
-        }
-        if key == keys[i] {
-            return values[i];
-        }
-        i += 1;
-    }
-    none
+    pairs.iter().find(|p| key == p.0).map(|p| p.1)
 }

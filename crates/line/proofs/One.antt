@@ -1,8 +1,8 @@
 -- The public function's promise leaves one answer. Assumes nothing.
 use mathlib.Core.Path.{sym, ap, ◌∙◌}
 use Rattle.promise.specs.Promise.{Leaves}
-use Rattle.state.specs.declared.Call.{Call}
-use Rattle.state.proofs.Boards.{done_as}
+use Rattle.state.specs.Call.{Call}
+use Rattle.state.proofs.Refused.{done_as}
 use Rattle.line.proofs.take_units.Reads as take-units
 
 -- the answer, and every byte of the lent arrays and of the lent buffer

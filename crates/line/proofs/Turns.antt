@@ -28,7 +28,7 @@ use Rattle.unit.specs.Protocol.{protocol}
 use Rattle.unit.specs.declared.Memory.{Memory}
 use Rattle.unit.proofs.Replies.{act_kind, does_length, act_order}
 use Rattle.state.specs.Returned.{Returned}
-use Rattle.state.specs.declared.Call.{Call}
+use Rattle.state.specs.Call.{Call}
 use Rattle.line.specs.Line.{ran, holding}
 use Rattle.line.proofs.Replies.{Written, written_at, lent_back}
 
@@ -47,8 +47,11 @@ pub record Looked (line : List ℕ) (i n : ℕ) (kind : Kind) : Type 0 where
   pub spans : n ≡ span kind
 
 -- first byte and name are read where the unit stands
-pub looked_at : (line : List ℕ) (i name : ℕ) (kind : Kind) → name ≡ le_at 4 i line → kind ≡ kind_from (get_or line i 0) name → kind ≡ kind_at (drop i line)
+looked_at : (line : List ℕ) (i name : ℕ) (kind : Kind) → name ≡ le_at 4 i line → kind ≡ kind_from (get_or line i 0) name → kind ≡ kind_at (drop i line)
 looked_at line i name kind e f = f ∙ rw (e, get_or-drop i line 0 0, le_at_drop 4 0 i line, add-zero i)
+
+pub looks : (line : List ℕ) (i name n : ℕ) (kind : Kind) → name ≡ le_at 4 i line → kind ≡ kind_from (get_or line i 0) name → n ≡ span kind → Looked line i n kind
+looks line i name n kind e f g = record { looked = looked_at line i name kind e f; spans = g }
 
 module _ {line : List ℕ} {i n : ℕ} {kind : Kind} (it : Looked line i n kind) where
   pub some : 0 < n
@@ -88,12 +91,9 @@ module _ (c : Called Order Memory) (t : ℕ) (line reply₀ reply : List ℕ) (m
       (rw (← inv.rest) (sym (take-append-drop w reply))) f
 
   -- no byte is left
-  pub ends : (r : Call) → length line ≤ i → r ≡ holding m Nothing t (take (i - i) d) i w → Returned ran c reply₀ r reply
+  pub ends : (r : Call) → length line ≤ i → r ≡ holding m Nothing t [] i w → Returned ran c reply₀ r reply
   ends r h f =
-      let z : i - i ≡ 0 = omega arith in
-      stops i [] r
-      (inv.same ∙ rw (drop_of_length-le line {i = i} h) (later_end protocol i (take w reply) (state_at m [] t) t (length reply₀ - w)))
-      (f ∙ rw z)
+      stops i [] r (inv.same ∙ rw (drop_of_length-le line {i = i} h) (later_end protocol i (take w reply) (state_at m [] t) t (length reply₀ - w))) f
 
   module _ (inside : i < length line) (n : ℕ) (kind : Kind) (it : Looked line i n kind) where
     span_is : span (kind_at d) ≡ n
@@ -185,14 +185,13 @@ module _ (c : Called Order Memory) (t : ℕ) (line reply₀ reply : List ℕ) (m
 
           -- it gave one, and the call is over
           pub gives : (order_number next.order ≡ 0 → ⊥) → (r : Call)
-              → r ≡ holding next.memory next.order t (take (i + n - (i + n)) (drop (i + n) line)) (i + n) (w + due) → Returned ran c reply₀ r back
+              → r ≡ holding next.memory next.order t [] (i + n) (w + due) → Returned ran c reply₀ r back
           gives h r f =
               let o = next.order in
-              let k : i + n - (i + n) ≡ 0 = omega arith in
               let os : done.orders ≡ o ∷ [] = sym orders_are ∙ rw (ne_eqb (order_number o) 0 h) in
               ran_over c (i + n) (w + out) t (take w reply ++ done.reply) reply₀ back [] done.orders next.memory o r
               (inv.same
               ∙ unit_stop protocol need_law i (take w reply) m t (length reply₀ - w) d n is there (omega (arith, inv.long, due_is)) o [] os
               ∙ rw (← memory_is))
               (rw (length-append, length-take-le w reply (omega (arith, inv.room, inv.long)))) (rw os)
-              (sym (take-append-drop (w + out) back) ∙ rw (wrote.front, past_is)) (f ∙ rw (k, due_is))
+              (sym (take-append-drop (w + out) back) ∙ rw (wrote.front, past_is)) (f ∙ rw due_is)

@@ -6,7 +6,7 @@ use Rattle.orders.specs.declared.Order.{Order}
 use Rattle.unit.specs.declared.Memory.{Memory}
 use Rattle.state.specs.State.{board_of}
 use Rattle.state.specs.Returned.{call_of}
-use Rattle.state.specs.declared.Call.{Call}
+use Rattle.state.specs.Call.{Call}
 
 -- the answer of the rule's call c
 abbrev pub ran : Called Order Memory → Call

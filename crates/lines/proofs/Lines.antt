@@ -1,10 +1,10 @@
 -- What an order looks like, how long the lines are, and a line that stands whole in its buffer. Assumes nothing.
 use mathlib.Core.Bool.{Bool, true, false, cond}
 use mathlib.Core.List.{List, [], ◌++◌, append-nil}
-use mathlib.Core.Path.{◌≡◌}
+use mathlib.Core.Path.{◌≡◌, refl}
+use mathlib.Core.Logic.{◌⊎◌, inl, inr}
 use Prim.Native.Nat.{ℕ, suc, ◌+◌, ◌*◌, ◌≤◌, ◌<◌}
 use native.Mathlib.Omega.{arith}
-use borrow.Author.Tests.{lt-ltb, le-ltb}
 use lib.Dec.{ltb, lit<}
 use lib.ListN.{length, take, length-append}
 use Rattle.text.specs.Texts.{decimal, Written}
@@ -15,16 +15,25 @@ use Rattle.orders.specs.declared.Order.TheVariants.{Nothing, Stop, Sstp, Pwof, L
 use Rattle.orders.specs.Orders.{order_number, order_travel}
 use Rattle.lines.specs.Lines.{travel_shown, order_shown, line_of, bad_of, end_of}
 
--- ---- an order by its number
+-- ---- an order, by whether it carries a travel
 
-module _ (o : Order) (n : ℕ) (number : n ≡ order_number o) where
-  pub bare_order : n < 8 → order_shown o ≡ decimal n
-  unfolding order_shown
-  bare_order h = rw (← number, lt-ltb n 8 h) (append-nil (decimal n))
+pub shown_bare : (o : Order) → ((t : Travel) → o ≡ Move t → ⊥) → ((t : Travel) → o ≡ Movr t → ⊥) → order_shown o ≡ decimal (order_number o)
+unfolding order_shown
+shown_bare Nothing h k = append-nil _
+shown_bare Stop h k = append-nil _
+shown_bare Sstp h k = append-nil _
+shown_bare Pwof h k = append-nil _
+shown_bare Left h k = append-nil _
+shown_bare Rigt h k = append-nil _
+shown_bare Home h k = append-nil _
+shown_bare Loft h k = append-nil _
+shown_bare (Move t) h k = absurd (h t refl)
+shown_bare (Movr t) h k = absurd (k t refl)
 
-  pub travel_order : 8 ≤ n → order_shown o ≡ decimal n ++ travel_shown (order_travel o)
-  unfolding order_shown
-  travel_order h = rw (← number, le-ltb n 8 h)
+pub shown_travel : (o : Order) (t : Travel) → (o ≡ Move t) ⊎ (o ≡ Movr t) → order_shown o ≡ decimal (order_number o) ++ travel_shown t
+unfolding order_shown
+shown_travel o t (inl e) = rw e
+shown_travel o t (inr e) = rw e
 
 -- ---- lengths
 

@@ -1,7 +1,6 @@
 // The lines of the bench, and an order as they show it. A byte past the end of a buffer is not written.
 #![tactic(auto)]
 
-ghost use Rattle.std.specs.Prelude.{◌≡◌};
 ghost use Rattle.text.specs.Texts.{Written};
 ghost use Rattle.lines.specs.Lines.{travel_shown, order_shown, line_of, bad_of, end_of};
 
@@ -11,28 +10,21 @@ use position::Travel;
 fn write_travel(out: &mut [u8], at: usize, travel: Travel) -> usize
     ensures { Written out.old at (travel_shown travel) result out.new }
 {
-    let steps = values::wide32(travel.steps.0);
-    let microsteps = values::wide16(travel.microsteps.0);
     let a = text::write_byte(out, at, b':');
-    let b = text::write_signed(out, a, steps);
+    let b = text::write_signed(out, a, i64::from(travel.steps.0));
     let c = text::write_byte(out, b, b':');
-    text::write_signed(out, c, microsteps)
+    text::write_signed(out, c, i64::from(travel.microsteps.0))
 }
 
 // An order's number, and the steps and microsteps of one that carries them.
 pub fn write_order(out: &mut [u8], at: usize, order: Order) -> usize
     ensures { Written out.old at (order_shown order) result out.new }
 {
-    let number = orders::order_number(order);
-    let last = text::write_decimal(out, at, number as u64);
-    if number < 8 {
-        return last;
+    let last = text::write_decimal(out, at, u64::from(order.number()));
+    if let Order::Move(travel) | Order::Movr(travel) = order {
+        return write_travel(out, last, travel);
     }
-    let travel = Travel {
-        steps: orders::order_steps(order),
-        microsteps: orders::order_microsteps(order),
-    };
-    write_travel(out, last, travel)
+    last
 }
 
 // ---- the lines, at the front of a buffer; the answer is how many of its bytes they are
@@ -40,7 +32,7 @@ pub fn write_order(out: &mut [u8], at: usize, order: Order) -> usize
 pub fn write_line(out: &mut [u8], stamp: u32, taken: usize, order: Order, reply: &[u8]) -> usize
     ensures { Written out.old 0 (line_of stamp taken order reply.now) result out.new }
 {
-    let a = text::write_number(out, 0, stamp as u64, b' ');
+    let a = text::write_number(out, 0, u64::from(stamp), b' ');
     let b = text::write_number(out, a, taken as u64, b' ');
     let c = write_order(out, b, order);
     let d = text::write_byte(out, c, b' ');

@@ -25,7 +25,7 @@ use Rattle.unit.proofs.Replies.{act_order, act_most}
 use Rattle.state.specs.State.{state_of, board_of}
 use Rattle.state.specs.Sound.{refusal_of}
 use Rattle.state.specs.declared.Board.{Board}
-use Rattle.state.specs.declared.Call.{Call}
+use Rattle.state.specs.Call.{Call}
 use Rattle.state.proofs.Boards.{refusal_none}
 use Rattle.receiver.specs.Receive.{answer}
 use Rattle.receiver.proofs.Calls.{accept_readied}

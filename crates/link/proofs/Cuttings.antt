@@ -1,5 +1,6 @@
 -- Requests as one run of bytes on the line, each byte behind its own stamp, offered in any cutting, and time and position reported in between: what is
 -- read back is the same, and so is what the board holds at the end. Assumes nothing.
+use Rattle.std.specs.Prelude.{Result}
 use mathlib.Core.Path.{◌≡◌, refl, sym, ap, subst, ◌∙◌}
 use mathlib.Core.List.{List, [], ◌∷◌, ◌++◌, map}
 use Prim.Native.Nat.{ℕ, zero, suc, ◌-◌}
@@ -24,7 +25,7 @@ use Rattle.unit.specs.declared.Memory.{Memory}
 use Rattle.unit.specs.declared.Notes.{Notes}
 use Rattle.state.specs.State.{board_of}
 use Rattle.state.specs.declared.Board.{Board}
-use Rattle.state.proofs.fresh.Reads as fresh
+use Rattle.state.proofs.Board.fresh.Reads as fresh
 use Rattle.clock.specs.Timely.{NoneOverdue, without_clock}
 use Rattle.clock.proofs.Clock.{none_overdue}
 use Rattle.demands.specs.Runs.{on_board, Offered}
@@ -33,6 +34,7 @@ use Rattle.host.specs.declared.Block.{Block}
 use Rattle.request.specs.Request.{frame_of}
 use Rattle.request.specs.declared.Request.{Request}
 use Rattle.answer.specs.declared.Reading.{Reading}
+use Rattle.answer.specs.declared.Unread.{Unread}
 use Rattle.link.specs.Book.{Book, book_of, noted, noted_all, answers_to, orders_of, replies_to}
 use Rattle.link.specs.Types.{TypedAll, TypedBoard, Kept}
 use Rattle.link.specs.Asking.{Ready, Sendable, ReadOff, AnswerForAnswer}
@@ -168,7 +170,7 @@ module _ {b : Board} {m : Memory} {t : ℕ} (is : b ≡ board_of (state_at m [] 
   cut_idle = ap (λ (y : Said Order Board). y.next.count) says ∙ ap length framed.idle
 
   -- the joined replies are read back, answer for answer, to the last byte
-  pub cut_read : Ready b → TypedBoard b → {rs : List Reading} {rest : List ℕ} → ReadOff x.reply rs rest → length rs ≡ length qs
+  pub cut_read : Ready b → TypedBoard b → {rs : List (Result Reading Unread)} {rest : List ℕ} → ReadOff x.reply rs rest → length rs ≡ length qs
       → AnswerForAnswer rs (answers_to book qs) × (rest ≡ [])
   cut_read can typed {rs} {rest} off e =
       let holds : Kept m.settings = subst (λ (y : Board). Kept y.memory.settings) is (kept b can typed) in
@@ -184,7 +186,7 @@ module _ (κs : _) (a : _) (b : Board) (s : _) (is : fresh.Post κs a b s) (xs :
   fresh_cut_blocks c =
       cut_blocks is xs sent timely offered c ∙ ap (λ (y : Board). noted_all (book_of y.memory.settings) (requests_of xs) c) is
 
-  pub fresh_cut_read : {rs : List Reading} {rest : List ℕ} → ReadOff x.reply rs rest → length rs ≡ length (requests_of xs)
+  pub fresh_cut_read : {rs : List (Result Reading Unread)} {rest : List ℕ} → ReadOff x.reply rs rest → length rs ≡ length (requests_of xs)
       → AnswerForAnswer rs (answers_to (book_of fresh_table) (requests_of xs)) × (rest ≡ [])
   fresh_cut_read {rs} {rest} off e =
       subst (λ (y : Board). AnswerForAnswer rs (answers_to (book_of y.memory.settings) (requests_of xs)) × (rest ≡ [])) is

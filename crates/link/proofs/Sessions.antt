@@ -1,5 +1,6 @@
 -- The host and the board on one line, over the promises of `write`, `receive` and `read` themselves. In quotation marks: sheet 02, P1.
 -- Assumes nothing.
+use Rattle.std.specs.Prelude.{Result, Ok}
 use mathlib.Core.Path.{◌≡◌, refl, sym, ap, subst, ◌∙◌}
 use mathlib.Core.List.{List, [], ◌∷◌, ◌++◌}
 use Prim.Native.Nat.{ℕ, zero, suc, ◌≤◌}
@@ -17,9 +18,9 @@ use Rattle.unit.specs.Protocol.{protocol}
 use Rattle.unit.proofs.Sound.{sound_memory_lem}
 use Rattle.state.specs.State.{state_of}
 use Rattle.state.specs.declared.Board.{Board}
-use Rattle.state.specs.declared.Call.{Call}
+use Rattle.state.specs.Call.{Call}
 use Rattle.state.proofs.Boards.{fresh_sound}
-use Rattle.state.proofs.fresh.Reads as fresh
+use Rattle.state.proofs.Board.fresh.Reads as fresh
 use Rattle.demands.specs.Calls.{Answers}
 use Rattle.demands.proofs.Calls.{ref_to, lent_to, receive_some, keeps_sound}
 use Rattle.host.specs.Names.{block_number}
@@ -30,11 +31,11 @@ use Rattle.fields.specs.declared.Fields.{Fields}
 use Rattle.request.specs.Request.{frame_of, bad_in, writes, buffer_after, Writes}
 use Rattle.request.specs.declared.Request.{Request}
 use Rattle.request.specs.declared.Request.TheVariants.{Set}
-use Rattle.request.specs.declared.Written.{Written}
-use Rattle.request.specs.declared.Written.TheVariants.{Frame}
+use Rattle.request.specs.declared.Refused.{Refused}
 use Rattle.request.proofs.Writes.{says_frame, Framed, wrote_frame, writes_some}
 use Rattle.answer.specs.Answer.{FirstRead, read_as, answer_of, first_answer}
 use Rattle.answer.specs.declared.Reading.{Reading}
+use Rattle.answer.specs.declared.Unread.{Unread}
 use Rattle.answer.proofs.Ways.{first_some}
 use Rattle.link.specs.Book.{Book, book_of, noted, noted_all, answer_to, answers_to, orders_by, orders_of, reply_to, replies_to}
 use Rattle.link.specs.Types.{TypedIn, TypedAll, TypedBoard, Kept}
@@ -45,15 +46,15 @@ use Rattle.link.proofs.Types.{fresh_typed}
 
 -- ---- what the contracts say
 
-pub wrote : {q : Request} {before after : List ℕ} {w : Written} → Writing q before w after → Writes (bad_in q) (frame_of q) before w after
+pub wrote : {q : Request} {before after : List ℕ} {w : Result ℕ Refused} → Writing q before w after → Writes (bad_in q) (frame_of q) before w after
 wrote (allowed κs a s got e f g) = rw (← e, ← f, ← g) got
 
-pub has_read : {bytes : List ℕ} {r : Reading} → Reads bytes r → read_as r ≡ first_answer bytes
+pub has_read : {bytes : List ℕ} {r : Result Reading Unread} → Reads bytes r → read_as r ≡ first_answer bytes
 has_read (allowed κs a s got e) = got ∙ ap first_answer e
 
 -- ---- a written request: the frame of n bytes stands at the buffer's front, and the board would refuse no field of it
 
-module _ {q : Request} {n : ℕ} {room out : List ℕ} (written : Writing q room (Frame n) out) where
+module _ {q : Request} {n : ℕ} {room out : List ℕ} (written : Writing q room (Ok n) out) where
   number_zero : (writes (bad_in q) (frame_of q) (length room)).number ≡ 0
   number_zero = sym (ap (λ w. w.number) (wrote written).answer)
 
@@ -82,7 +83,7 @@ pub kept : (b : Board) → Ready b → TypedBoard b → Kept b.memory.settings
 kept b can typed = record { good = (sound_memory_lem (state_of b) can.sound).good; bytes = typed.table }
 
 -- "a written frame, offered whole to a sound board with room enough and nothing unfinished, is accepted"
-module _ {q : Request} {n : ℕ} {room out : List ℕ} (written : Writing q room (Frame n) out) (typed : TypedIn q)
+module _ {q : Request} {n : ℕ} {room out : List ℕ} (written : Writing q room (Ok n) out) (typed : TypedIn q)
     {b : Board} {t : ℕ} {before after : List ℕ} {r : Call} (got : Answers b t (take n out) before r after) (can : Ready b) (wide : protocol.least_room ≤ length before) where
   abbrev book : Book
   book = book_of b.memory.settings
@@ -133,14 +134,14 @@ module _ {q : Request} {n : ℕ} {room out : List ℕ} (written : Writing q room
       }
 
   -- "the host reader gives back what a get reply holds", and so each reply, whatever stands behind it
-  pub read_back : TypedBoard b → (rest : List ℕ) {x : Reading} → Reads (take r.written after ++ rest) x
+  pub read_back : TypedBoard b → (rest : List ℕ) {x : Result Reading Unread} → Reads (take r.written after ++ rest) x
       → read_as x ≡ answer_of r.written (answer_to book q)
   read_back fit rest got_read =
       has_read got_read ∙ ap (λ (u : List ℕ). first_answer (u ++ rest)) (replied fit) ∙ reply_read book q (bound b fit) rest
       ∙ ap (λ (k : ℕ). answer_of k (answer_to book q)) (sym (one_unit.written ∙ ap length (done.reply (kept b can fit))))
 
 -- "the fields of its block are then those written", and no other block changes
-module _ {f : Fields} {n : ℕ} {room out : List ℕ} (written : Writing (Set f) room (Frame n) out) (typed : Typed f)
+module _ {f : Fields} {n : ℕ} {room out : List ℕ} (written : Writing (Set f) room (Ok n) out) (typed : Typed f)
     {b : Board} {t : ℕ} {before after : List ℕ} {r : Call} (got : Answers b t (take n out) before r after) (can : Ready b) (wide : protocol.least_room ≤ length before) where
   pub then_written : book_of r.board.memory.settings (block_of f) ≡ f
   then_written = blocks written typed got can wide (block_of f) ∙ rw (eq-eqb (block_number (block_of f)) (block_number (block_of f)) refl)
@@ -153,7 +154,7 @@ module _ {f : Fields} {n : ℕ} {room out : List ℕ} (written : Writing (Set f)
 -- ---- ANY SEQUENCE OF REQUESTS
 
 -- the book's replies, joined, are read back, answer for answer, to the last byte
-pub replies_read : (book : Book) (qs : List Request) → Bound book → TypedAll qs → {xs : List Reading} {rest : List ℕ} → ReadOff (replies_to book qs) xs rest
+pub replies_read : (book : Book) (qs : List Request) → Bound book → TypedAll qs → {xs : List (Result Reading Unread)} {rest : List ℕ} → ReadOff (replies_to book qs) xs rest
     → length xs ≡ length qs → AnswerForAnswer xs (answers_to book qs) × (rest ≡ [])
 replies_read book [] bound typed none e = (tt, refl)
 replies_read book [] bound typed (one reads off) e = absurd (omega arith)
@@ -216,7 +217,7 @@ asked_typed_again (ask typed written wide got rest) can fit =
 
 -- "the host reader gives back what a get reply holds", of any sequence: read off as often as was asked, the joined replies are the book's answers, one
 -- for one, and nothing is left
-pub asked_read : {b end : Board} {qs : List Request} {reply rest : List ℕ} {orders : List Order} {xs : List Reading} → Asked b qs reply orders end
+pub asked_read : {b end : Board} {qs : List Request} {reply rest : List ℕ} {orders : List Order} {xs : List (Result Reading Unread)} → Asked b qs reply orders end
     → Ready b → TypedBoard b → ReadOff reply xs rest → length xs ≡ length qs → AnswerForAnswer xs (answers_to (book_of b.memory.settings) qs) × (rest ≡ [])
 asked_read {b = b} {qs = qs} {rest = rest} {xs = xs} asked can typed off e =
     replies_read (book_of b.memory.settings) qs (bound b typed) (asked_typed asked)
@@ -233,7 +234,7 @@ module _ (κs : _) (a : _) (b : Board) (s : _) (is : fresh.Post κs a b s) where
   fresh_asked_blocks {qs = qs} asked c =
       asked_blocks asked fresh_ready c ∙ ap (λ (y : Board). noted_all (book_of y.memory.settings) qs c) is
 
-  pub fresh_asked_read : {end : Board} {qs : List Request} {reply rest : List ℕ} {orders : List Order} {xs : List Reading} → Asked b qs reply orders end
+  pub fresh_asked_read : {end : Board} {qs : List Request} {reply rest : List ℕ} {orders : List Order} {xs : List (Result Reading Unread)} → Asked b qs reply orders end
       → ReadOff reply xs rest → length xs ≡ length qs → AnswerForAnswer xs (answers_to (book_of fresh_table) qs) × (rest ≡ [])
   fresh_asked_read {qs = qs} {rest = rest} {xs = xs} asked off e =
       subst (λ (y : Board). AnswerForAnswer xs (answers_to (book_of y.memory.settings) qs) × (rest ≡ [])) is
@@ -241,16 +242,16 @@ module _ (κs : _) (a : _) (b : Board) (s : _) (is : fresh.Post κs a b s) where
 
 -- ---- every request, every slice and every sequence gets its answers
 
-pub write_some : (q : Request) (room : List ℕ) → (w : Written) × Writing q room w (buffer_after (bad_in q) (frame_of q) room)
+pub write_some : (q : Request) (room : List ℕ) → (w : Result ℕ Refused) × Writing q room w (buffer_after (bad_in q) (frame_of q) room)
 write_some q room =
     let w = writes_some (bad_in q) (frame_of q) (length room) in
     (w.0, allowed ([], tt) (q, (lent_to room, tt)) (q, (lent_to (buffer_after (bad_in q) (frame_of q) room), tt)) (record { answer = w.1; buffer = refl }) refl refl refl)
 
-pub read_some : (bytes : List ℕ) → (x : Reading) × Reads bytes x
+pub read_some : (bytes : List ℕ) → (x : Result Reading Unread) × Reads bytes x
 read_some bytes = let x = first_some bytes in (x.0, allowed ([], tt) (ref_to bytes, tt) (ref_to bytes, tt) x.1 refl)
 
 -- as often as one likes
-pub readable : (n : ℕ) (bytes : List ℕ) → (xs : List Reading) × (rest : List ℕ) × (length xs ≡ n) × ReadOff bytes xs rest
+pub readable : (n : ℕ) (bytes : List ℕ) → (xs : List (Result Reading Unread)) × (rest : List ℕ) × (length xs ≡ n) × ReadOff bytes xs rest
 readable zero bytes = ([], bytes, refl, none)
 readable (suc n) bytes =
     let x = read_some bytes in
@@ -258,7 +259,7 @@ readable (suc n) bytes =
     (x.0 ∷ more.0, more.1, ap suc more.2, one x.1 more.3)
 
 -- a request that passes its test is written where it fits
-pub write_good : (q : Request) (room : List ℕ) → bad_in q ≡ 0 → length (frame_of q) ≤ length room → (out : List ℕ) × Writing q room (Frame (length (frame_of q))) out
+pub write_good : (q : Request) (room : List ℕ) → bad_in q ≡ 0 → length (frame_of q) ≤ length room → (out : List ℕ) × Writing q room (Ok (length (frame_of q))) out
 write_good q room good fits =
     let w = says_frame (bad_in q) (frame_of q) room (length (frame_of q)) (sets room 0 (frame_of q)) good fits refl refl in
     (sets room 0 (frame_of q), allowed ([], tt) (q, (lent_to room, tt)) (q, (lent_to (sets room 0 (frame_of q)), tt)) w refl refl refl)

@@ -29,9 +29,9 @@ use Rattle.unit.proofs.Kept.{accepted, unit_ends}
 use Rattle.state.specs.State.{state_of}
 use Rattle.state.specs.Sound.{refusal_of}
 use Rattle.state.specs.declared.Board.{Board}
-use Rattle.state.specs.declared.Call.{Call}
+use Rattle.state.specs.Call.{Call}
 use Rattle.state.proofs.Boards.{state_board}
-use Rattle.state.proofs.fresh.Reads as state-fresh
+use Rattle.state.proofs.Board.fresh.Reads as state-fresh
 use Rattle.clock.specs.Clock.{overdue, dropped}
 use Rattle.drive.specs.Report.{position_refusal}
 use Rattle.position.specs.declared.Position.{Position}

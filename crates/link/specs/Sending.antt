@@ -1,10 +1,9 @@
 -- Requests as one run of bytes on the line: the words in which Cuttings (proofs) speaks. In quotation marks: sheet 01.
-use Rattle.std.specs.Prelude.{◌≡◌, List, [], ◌∷◌, ◌++◌, ℕ, suc, length, take}
+use Rattle.std.specs.Prelude.{◌≡◌, List, [], ◌∷◌, ◌++◌, ℕ, suc, length, take, Ok}
 use Rattle.rule.specs.Run.{Item, byte, event}
 use Rattle.rule.specs.Facts.{InTime, spread}
 use Rattle.unit.specs.Unit.{Event}
 use Rattle.request.specs.declared.Request.{Request}
-use Rattle.request.specs.declared.Written.TheVariants.{Frame}
 use Rattle.link.specs.Types.{TypedIn}
 use Rattle.link.specs.Asking.{Writing}
 
@@ -16,7 +15,7 @@ pub record Sent : Type 0 where
   pub room : List ℕ
   pub size : ℕ
   pub out : List ℕ
-  pub written : Writing request room (Frame size) out
+  pub written : Writing request room (Ok size) out
   pub first : ℕ
   pub others : List ℕ
   pub each : size ≡ suc (length others)

@@ -1,6 +1,7 @@
 -- The demands, of the functions that C and Rust link: each allows what the function behind it allows. In quotation marks: the demands by number.
 -- Assumes nothing.
 use Prim.Native.Nat.{ℕ}
+use Rattle.std.specs.Prelude.{Ok}
 use mathlib.Core.Path.{◌≡◌, refl, ap, sym, subst, ◌∙◌}
 use mathlib.Core.Bool.{Bool, true, false, cond}
 use mathlib.Core.List.{List, [], ◌∷◌, ◌++◌, map, map-append}
@@ -26,10 +27,10 @@ use Rattle.state.specs.State.{state_of, board_of}
 use Rattle.state.specs.Parts.{rest_of}
 use Rattle.state.specs.Sound.{refusal_of}
 use Rattle.state.specs.declared.Board.{Board}
-use Rattle.state.specs.declared.Call.{Call}
+use Rattle.state.specs.Call.{Call}
 use Rattle.state.specs.declared.Report.{Report}
 use Rattle.flash.specs.Flash.{with_settings}
-use Rattle.flash.proofs.Back.{comes_back}
+use Rattle.flash.proofs.Back.{back_is}
 use Rattle.receiver.specs.Receive.{answer}
 use Rattle.demands.specs.Calls.{Answers}
 use Rattle.demands.specs.Reports as reports
@@ -157,5 +158,5 @@ module _ {b : Board} {run all : List (Item Event)} {x : Said OrderSeen Board} (h
 pub linked_back : {b : Board} {before after : List ℕ} {r : Report} → HandsOut b before 0 after → TakesBack (take (whole_of sheet) after) r
     → r ≡ record { number = 0; board = with_settings (board_of fresh_state) b.memory.settings }
 linked_back (allowed κs a s got e f g) (allowed κs' a' s' is stored) =
-    comes_back κs a 0 s got refl κs' a' _ s' is (stored ∙ ap (take (whole_of sheet)) (sym g))
+    is ∙ back_is κs a (Ok tt) s got refl a'.0.now (stored ∙ ap (take (whole_of sheet)) (sym g))
     ∙ ap (λ (x : Board). record { number = 0; board = with_settings (board_of fresh_state) x.memory.settings }) e

@@ -1,4 +1,5 @@
 -- P1's writer, reader and sequence, of the functions that C and Rust link. In quotation marks: sheet 02, P1. Assumes nothing.
+use Rattle.std.specs.Prelude.{Some, Result, Ok, Err}
 use Prim.Native.Nat.{ℕ, ◌≤◌}
 use mathlib.Core.Path.{◌≡◌, refl, ap, sym, subst, ◌∙◌}
 use mathlib.Core.List.{List, [], ◌∷◌, ◌++◌, map, map-append}
@@ -9,7 +10,7 @@ use Rattle.position.specs.Position.{travel_of}
 use Rattle.orders.specs.Orders.{given}
 use Rattle.orders.specs.declared.Order.{Order}
 use Rattle.state.specs.declared.Board.{Board}
-use Rattle.state.specs.declared.Call.{Call}
+use Rattle.state.specs.Call.{Call}
 use Rattle.demands.specs.Calls.{Answers}
 use Rattle.demands.proofs.Calls.{ref_to, lent_to}
 use Rattle.board.specs.Answer.{flat, Left as FlatCall}
@@ -17,8 +18,6 @@ use Rattle.host.specs.Names.{block_number, block_at, order_at, order_number as n
 use Rattle.host.specs.declared.Block.{Block}
 use Rattle.host.specs.declared.Order as host
 use Rattle.host.specs.declared.Order.TheVariants.{Stop, Sstp, Pwof, Left, Rigt, Home, Loft}
-use Rattle.host.specs.declared.FoundBlock.TheVariants as block
-use Rattle.host.specs.declared.FoundOrder.TheVariants as order
 use Rattle.host.proofs.Numbered.{block_back, order_back}
 use Rattle.fields.specs.Fields.{block_of}
 use Rattle.fields.specs.declared.Fields.{Fields}
@@ -28,11 +27,12 @@ use Rattle.blocks.specs.declared.Blocks.{Blocks}
 use Rattle.request.specs.Request.{written_as}
 use Rattle.request.specs.declared.Request.{Request}
 use Rattle.request.specs.declared.Request.TheVariants.{Get, Set, Give}
-use Rattle.request.specs.declared.Written.{Written}
-use Rattle.request.specs.declared.Written.TheVariants.{Frame, OutOfRange, TooShort}
+use Rattle.request.specs.declared.Refused.{Refused}
+use Rattle.request.specs.declared.Refused.TheVariants.{OutOfRange, TooShort}
 use Rattle.answer.specs.Answer.{read_as, first_answer}
 use Rattle.answer.specs.declared.Answer.{Answer}
 use Rattle.answer.specs.declared.Reading.{Reading}
+use Rattle.answer.specs.declared.Unread.{Unread}
 use Rattle.optimiser.specs.Flat.{get_asked, set_asked, order_asked, flat_written, nobody, FlatWrites, flat_read, answer_kind, what_of, data_blocks}
 use Rattle.optimiser.specs.declared.FlatWritten.{FlatWritten}
 use Rattle.optimiser.specs.declared.FlatAnswer.{FlatAnswer}
@@ -79,26 +79,26 @@ module _ {before after : List ℕ} {r : FlatWritten} where
   asks_one (set {x = x} e got) = flats.asks_as _ _ (ap (set_asked x) e) (writes_set got)
   asks_one (give e got) = flats.asks_as _ _ (ap order_asked e) (writes_order got)
 
-  pub asks : {q : Request} → Asks q before r after → (w : Written) × Writing q before w after × (r ≡ flat_written (written_as w))
+  pub asks : {q : Request} → Asks q before r after → (w : Result ℕ Refused) × Writing q before w after × (r ≡ flat_written (written_as w))
   asks {q} got =
       let said = asks_one got in
       let w = write_some q before in
       (w.0, subst (Writing q before w.0) (sym said.buffer) w.1, said.answer ∙ ap flat_written (sym (wrote w.1).answer))
 
-module _ {before after : List ℕ} {w : Written} where
+module _ {before after : List ℕ} {w : Result ℕ Refused} where
   said_one : {q : Request} → Writing q before w after → FlatWrites (q ∷ []) before (flat_written (written_as w)) after
   said_one {q} got = flats.asks q before after w _ (wrote got) refl
 
-  pub get_all : {n : ℕ} {b : Block} → block_at n ≡ block.Known b → Writing (Get b) before w after → WritesGet n before (flat_written (written_as w)) after
+  pub get_all : {n : ℕ} {b : Block} → block_at n ≡ Some b → Writing (Get b) before w after → WritesGet n before (flat_written (written_as w)) after
   get_all {n} e got =
       allowed ([], tt) (n, (lent_to before, tt)) (n, (lent_to after, tt)) (flats.asks_as _ _ (ap get_asked (sym e)) (said_one got)) refl refl refl
 
-  pub set_all : {n : ℕ} {b : Block} (x : Blocks) → block_at n ≡ block.Known b → Writing (Set (fields_at x b)) before w after → WritesSet n x before (flat_written (written_as w)) after
+  pub set_all : {n : ℕ} {b : Block} (x : Blocks) → block_at n ≡ Some b → Writing (Set (fields_at x b)) before w after → WritesSet n x before (flat_written (written_as w)) after
   set_all {n} x e got =
       allowed ([], tt) (n, (x, (lent_to before, tt))) (n, (x, (lent_to after, tt))) (flats.asks_as _ _ (ap (set_asked x) (sym e)) (said_one got))
       refl refl refl refl
 
-  pub order_all : {n : ℕ} {o : host.Order} → order_at n ≡ order.Known o → Writing (Give o) before w after → WritesOrder n before (flat_written (written_as w)) after
+  pub order_all : {n : ℕ} {o : host.Order} → order_at n ≡ Some o → Writing (Give o) before w after → WritesOrder n before (flat_written (written_as w)) after
   order_all {n} e got =
       allowed ([], tt) (n, (lent_to before, tt)) (n, (lent_to after, tt)) (flats.asks_as _ _ (ap order_asked (sym e)) (said_one got)) refl refl refl
 
@@ -113,7 +113,7 @@ own_fields (Brk x) = refl
 own_fields (Pid x) = refl
 
 -- so every request can be asked, by the number of its block or order
-module _ {before after : List ℕ} {w : Written} where
+module _ {before after : List ℕ} {w : Result ℕ Refused} where
   pub asks_all : {q : Request} → Writing q before w after → Asks q before (flat_written (written_as w)) after
   asks_all {q = Get b} got = get {n = block_number b} (block_back b) (get_all (block_back b) got)
   asks_all {q = Set f} got =
@@ -123,22 +123,22 @@ module _ {before after : List ℕ} {w : Written} where
   asks_all {q = Give o} got = give {n = number_of o} (order_back o) (order_all (order_back o) got)
 
 module _ {bytes : List ℕ} where
-  pub reads_flat : {r : FlatAnswer} → ReadsFlat bytes r → (x : Reading) × Reads bytes x × (r ≡ flat_read (read_as x))
+  pub reads_flat : {r : FlatAnswer} → ReadsFlat bytes r → (x : Result Reading Unread) × Reads bytes x × (r ≡ flat_read (read_as x))
   reads_flat (allowed κs a s got e) =
       let x = read_some bytes in
       (x.0, x.1, got ∙ ap (λ (l : List ℕ). flat_read (first_answer l)) e ∙ ap flat_read (sym (has_read x.1)))
 
-  pub reads_flat_all : {x : Reading} → Reads bytes x → ReadsFlat bytes (flat_read (read_as x))
+  pub reads_flat_all : {x : Result Reading Unread} → Reads bytes x → ReadsFlat bytes (flat_read (read_as x))
   reads_flat_all got = allowed ([], tt) (ref_to bytes, tt) (ref_to bytes, tt) (ap flat_read (has_read got)) refl
 
 -- a frame was written where the number is 0
-frame_written : {q : Request} {room out : List ℕ} {r : FlatWritten} → Asks q room r out → r.number ≡ 0 → Writing q room (Frame r.size) out
+frame_written : {q : Request} {room out : List ℕ} {r : FlatWritten} → Asks q room r out → r.number ≡ 0 → Writing q room (Ok r.size) out
 frame_written {q} {room} {out} {r} got zero = let w = asks got in by w.0 w.1 w.2
   where
-    by : (w : Written) → Writing q room w out → r ≡ flat_written (written_as w) → Writing q room (Frame r.size) out
-    by (Frame n) h e = subst (λ (k : ℕ). Writing q room (Frame k) out) (ap (λ (y : FlatWritten). y.size) (sym e)) h
-    by OutOfRange h e = let three : r.number ≡ 3 = ap (λ (y : FlatWritten). y.number) e in absurd (omega arith)
-    by TooShort h e = let four : r.number ≡ 4 = ap (λ (y : FlatWritten). y.number) e in absurd (omega arith)
+    by : (w : Result ℕ Refused) → Writing q room w out → r ≡ flat_written (written_as w) → Writing q room (Ok r.size) out
+    by (Ok n) h e = subst (λ (k : ℕ). Writing q room (Ok k) out) (ap (λ (y : FlatWritten). y.size) (sym e)) h
+    by (Err OutOfRange) h e = let three : r.number ≡ 3 = ap (λ (y : FlatWritten). y.number) e in absurd (omega arith)
+    by (Err TooShort) h e = let four : r.number ≡ 4 = ap (λ (y : FlatWritten). y.number) e in absurd (omega arith)
 
 -- ---- A SEQUENCE
 
@@ -165,11 +165,11 @@ asked_is (ask {b} {end} {q} {w} {t} {room} {out} {before} {after} {r} {qs} {repl
     )
 
 -- read off by the functions behind them
-abbrev flat_as : Reading → FlatAnswer
+abbrev flat_as : Result Reading Unread → FlatAnswer
 flat_as y = flat_read (read_as y)
 
 pub off_is : {bytes rest : List ℕ} {xs : List FlatAnswer} → ReadOff bytes xs rest
-    → (ys : List Reading) × link.ReadOff bytes ys rest × (xs ≡ map flat_as ys)
+    → (ys : List (Result Reading Unread)) × link.ReadOff bytes ys rest × (xs ≡ map flat_as ys)
 off_is none = ([], link.none, refl)
 off_is (one {bytes} {rest} {x} {xs} got off) =
     let y = reads_flat got in
@@ -177,7 +177,7 @@ off_is (one {bytes} {rest} {x} {xs} got off) =
     let behind = subst (λ (k : ℕ). link.ReadOff (drop k bytes) more.0 rest) (ap (λ (z : FlatAnswer). z.size) y.2) more.1 in
     (y.0 ∷ more.0, link.one y.1 behind, λ i. y.2 i ∷ more.2 i)
 
-answers_flat : (ys : List Reading) (rest : List Answer) → link.AnswerForAnswer ys rest → AnswerForAnswer (map flat_as ys) rest
+answers_flat : (ys : List (Result Reading Unread)) (rest : List Answer) → link.AnswerForAnswer ys rest → AnswerForAnswer (map flat_as ys) rest
 answers_flat [] [] h = tt
 answers_flat [] (a ∷ rest) h = h
 answers_flat (y ∷ ys) [] h = h
@@ -244,7 +244,7 @@ asked_all (link.ask {b} {end} {q} {after = after} {r = r} {qs} {reply} {orders =
     ((λ i. sym (given_seen r.order) i ++ map order_seen os) ∙ sym (map-append order_seen (given r.order) os))
     (ask {r = flat r} typed (asks_all written) refl wide (receives_all got) (asked_all rest))
 
-pub off_all : {bytes rest : List ℕ} {ys : List Reading} → link.ReadOff bytes ys rest → ReadOff bytes (map flat_as ys) rest
+pub off_all : {bytes rest : List ℕ} {ys : List (Result Reading Unread)} → link.ReadOff bytes ys rest → ReadOff bytes (map flat_as ys) rest
 off_all link.none = none
 off_all (link.one got off) = one (reads_flat_all got) (off_all off)
 

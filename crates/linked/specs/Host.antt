@@ -1,5 +1,5 @@
 -- The host's functions as C and Rust link them: what their contracts allow, and requests asked of a board by them. In quotation marks: sheet 02, P1.
-use Rattle.std.specs.Prelude.{ℕ, ◌≤◌, ◌≡◌, List, [], ◌∷◌, ◌++◌, length, take, drop}
+use Rattle.std.specs.Prelude.{ℕ, ◌≤◌, ◌≡◌, List, [], ◌∷◌, ◌++◌, length, take, drop, Some}
 use Rattle.position.specs.Position.{travel_of}
 use Rattle.unit.specs.Protocol.{protocol}
 use Rattle.state.specs.declared.Board.{Board}
@@ -7,8 +7,6 @@ use Rattle.board.specs.Answer.{Left}
 use Rattle.host.specs.Names.{block_at, order_at, order_number}
 use Rattle.host.specs.declared.Block.{Block}
 use Rattle.host.specs.declared.Order.{Order}
-use Rattle.host.specs.declared.FoundBlock.TheVariants as block
-use Rattle.host.specs.declared.FoundOrder.TheVariants as order
 use Rattle.blocks.specs.Blocks.{fields_at}
 use Rattle.blocks.specs.declared.Blocks.{Blocks}
 use Rattle.request.specs.declared.Request.{Request}
@@ -47,10 +45,10 @@ pub data ReadsFlat (bytes : List ℕ) (r : FlatAnswer) : Type 0 where
 
 -- the request that is asked by such a call, with the number of a block or an order
 pub data Asks : Request → List ℕ → FlatWritten → List ℕ → Type 0 where
-  get : {n : ℕ} {b : Block} {before after : List ℕ} {r : FlatWritten} → block_at n ≡ block.Known b → WritesGet n before r after → Asks (Get b) before r after
-  set : {n : ℕ} {b : Block} {x : Blocks} {before after : List ℕ} {r : FlatWritten} → block_at n ≡ block.Known b → WritesSet n x before r after
+  get : {n : ℕ} {b : Block} {before after : List ℕ} {r : FlatWritten} → block_at n ≡ Some b → WritesGet n before r after → Asks (Get b) before r after
+  set : {n : ℕ} {b : Block} {x : Blocks} {before after : List ℕ} {r : FlatWritten} → block_at n ≡ Some b → WritesSet n x before r after
       → Asks (Set (fields_at x b)) before r after
-  give : {n : ℕ} {o : Order} {before after : List ℕ} {r : FlatWritten} → order_at n ≡ order.Known o → WritesOrder n before r after → Asks (Give o) before r after
+  give : {n : ℕ} {o : Order} {before after : List ℕ} {r : FlatWritten} → order_at n ≡ Some o → WritesOrder n before r after → Asks (Give o) before r after
 
 -- ---- a sequence
 

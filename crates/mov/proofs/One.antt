@@ -1,13 +1,13 @@
 -- Each public function's promise leaves one answer. Assumes nothing.
 use mathlib.Core.Path.{sym, ◌∙◌}
 use Rattle.promise.specs.Promise.{Leaves}
-use Rattle.mov.proofs.Mov.head.Reads as head
-use Rattle.mov.proofs.Mov.decode.Reads as decode
+use Rattle.mov.proofs.MovBlock.head.Reads as head
+use Rattle.mov.proofs.MovSection.decode.Reads as decode
 use Rattle.mov.proofs.Mov.numbers.Reads as numbers
-use Rattle.mov.proofs.Mov.encode.Reads as encode
-use Rattle.mov.proofs.Mov.first_bad.Reads as first-bad
-use Rattle.mov.proofs.Mov.is_sound.Reads as is-sound
-use Rattle.mov.proofs.Mov.fresh.Reads as fresh
+use Rattle.mov.proofs.MovBlock.encode.Reads as encode
+use Rattle.mov.proofs.MovSection.first_bad.Reads as first-bad
+use Rattle.mov.proofs.MovBlock.is_sound.Reads as is-sound
+use Rattle.mov.proofs.MovBlock.fresh.Reads as fresh
 
 pub head_one : Leaves head.Post (λ κs r s. r)
 head_one κs a r r' s s' p q = p ∙ sym q

@@ -1,14 +1,13 @@
 // Block 1, mov.
 #![tactic(auto)]
 
-ghost use Rattle.std.specs.Prelude.{◌≡◌};
-ghost use Rattle.std.proofs.lemmas.List.Edits.{sets};
+ghost use Rattle.std.specs.Prelude.{◌≡◌, refl};
 ghost use Rattle.sheet.specs.Sheet.{mov_row, smov, gmov};
-ghost use Rattle.sheet.specs.Rows.{head_of, numbers_in, data_of, first_bad, fresh};
-ghost use Rattle.sheet.specs.Sections.{sound_in};
+ghost use Rattle.sheet.specs.Rows.{total};
 ghost use Rattle.mov.specs.Mov.{mov_of, mov_numbers};
 
-use sheet::Head;
+use sheet::{Block, Section};
+use wire::Number;
 
 #[repr(C)]
 #[derive(Clone, Copy)]
@@ -22,60 +21,40 @@ pub struct Mov {
 }
 
 impl Mov {
-    pub const TOTAL: usize = 30;
-
-    pub const SET: u32 = 0x766f6d73;
-
-    pub const GET: u32 = 0x766f6d67;
-
-    // The three constants, held against the sheet.
-    pub fn head() -> Head
-        ensures { result ≡ head_of smov gmov }
-    {
-        Head {
-            total: Mov::TOTAL,
-            set: Mov::SET,
-            get: Mov::GET,
-        }
-    }
-
-    pub fn decode(part: &[u8]) -> Mov
-        ensures { result ≡ mov_of (numbers_in mov_row part.now) }
-    {
-        Mov {
-            speed: wire::u32_at(part, 0),
-            uSpeed: wire::u8_at(part, 4),
-            accel: wire::u16_at(part, 5),
-            decel: wire::u16_at(part, 7),
-            antiplaySpeed: wire::u32_at(part, 9),
-            uAntiplaySpeed: wire::u8_at(part, 13),
-        }
-    }
-
     // The numbers of the fields as they stand on the wire.
     pub fn numbers(self) -> [u64; 6]
         ensures { result ≡ mov_numbers self }
     {
         [
-            self.speed as u64,
-            self.uSpeed as u64,
-            self.accel as u64,
-            self.decel as u64,
-            self.antiplaySpeed as u64,
-            self.uAntiplaySpeed as u64,
+            self.speed.number(),
+            self.uSpeed.number(),
+            self.accel.number(),
+            self.decel.number(),
+            self.antiplaySpeed.number(),
+            self.uAntiplaySpeed.number(),
         ]
     }
+}
 
-    pub fn encode(self, out: &mut [u8])
-        ensures { out.new ≡ sets out.old 0 (data_of mov_row (mov_numbers self)) }
-    {
-        let ns = self.numbers();
-        wire::lay(out, &[4, 1, 2, 2, 4, 1, 10], &ns)
+impl Section for Mov {
+    ghost sheet_row = { mov_row };
+
+    ghost of = { mov_of };
+
+    ghost to = { mov_numbers };
+
+    fn decode(part: &[u8]) -> Mov {
+        Mov {
+            speed: Number::read(part, 0),
+            uSpeed: Number::read(part, 4),
+            accel: Number::read(part, 5),
+            decel: Number::read(part, 7),
+            antiplaySpeed: Number::read(part, 9),
+            uAntiplaySpeed: Number::read(part, 13),
+        }
     }
 
-    pub fn first_bad(self) -> usize
-        ensures { result ≡ first_bad mov_row (mov_numbers self) }
-    {
+    fn first_bad(self) -> Option<usize> {
         let ns = self.numbers();
         ranges::first_false(&[
             ranges::is_within(0, 100000, ns[0]),
@@ -86,21 +65,47 @@ impl Mov {
             true,
         ])
     }
+}
 
-    // Whether a data section is sound: its fields in their ranges, its reserved bytes zero. It is asked at every call, so it reads only what it tests.
-    pub fn is_sound(part: &[u8]) -> bool
-        ensures { result ≡ sound_in mov_row part.now }
-    {
-        ranges::is_within(0, 100000, wire::u32_at(part, 0) as u64)
-            & (ranges::is_within(1, 65535, wire::u16_at(part, 5) as u64)
-                & (ranges::is_within(1, 65535, wire::u16_at(part, 7) as u64)
-                    & (ranges::is_within(0, 100000, wire::u32_at(part, 9) as u64)
-                        & ((wire::u64_at(part, 14) == 0) & (wire::u16_at(part, 22) == 0)))))
+impl Block for Mov {
+    ghost set = { smov };
+
+    ghost get = { gmov };
+
+    const TOTAL: usize = 30;
+
+    const SET: u32 = 0x766f6d73;
+
+    const GET: u32 = 0x766f6d67;
+
+    ghost TOTAL = { total mov_row };
+
+    ghost SET = { smov.name };
+
+    ghost GET = { gmov.name };
+
+    ghost total_fixed = { refl };
+
+    ghost set_fixed = { refl };
+
+    ghost get_fixed = { refl };
+
+    ghost rows = { (refl, refl) };
+
+    fn encode(self, out: &mut [u8]) {
+        let ns = self.numbers();
+        wire::lay(out, &[4, 1, 2, 2, 4, 1, 10], &ns)
     }
 
-    pub fn fresh() -> Mov
-        ensures { result ≡ mov_of (fresh mov_row) }
-    {
+    fn is_sound(part: &[u8]) -> bool {
+        ranges::is_within(0, 100000, u32::read(part, 0) as u64)
+            & (ranges::is_within(1, 65535, u16::read(part, 5) as u64)
+                & (ranges::is_within(1, 65535, u16::read(part, 7) as u64)
+                    & (ranges::is_within(0, 100000, u32::read(part, 9) as u64)
+                        & ((u64::read(part, 14) == 0) & (u16::read(part, 22) == 0)))))
+    }
+
+    fn fresh() -> Mov {
         Mov {
             speed: 0,
             uSpeed: 0,

@@ -1,3 +1,4 @@
+pub mod Looked
 pub mod Lengths
 pub mod Need
 pub mod Named

@@ -1,13 +1,13 @@
 -- Each public function's promise leaves one answer. Assumes nothing.
 use mathlib.Core.Path.{sym, ◌∙◌}
 use Rattle.promise.specs.Promise.{Leaves}
-use Rattle.names.proofs.get_total.Reads as get-total
-use Rattle.names.proofs.kind_of.Reads as kind-of
-use Rattle.names.proofs.span_of.Reads as Span-of
-use Rattle.names.proofs.replied_of.Reads as replied-of
+use Rattle.names.proofs.total_of.Reads as total-of
+use Rattle.names.proofs.Kind.of.Reads as kind-of
+use Rattle.names.proofs.Kind.span.Reads as Span-of
+use Rattle.names.proofs.Kind.replied.Reads as replied-of
 
-pub get_total_one : Leaves get-total.Post (λ κs r s. r)
-get_total_one κs a r r' s s' p q = p ∙ sym q
+pub get_total_one : Leaves total-of.Post (λ κs r s. r)
+get_total_one κs a r r' s s' p q = p.1 ∙ sym q.1
 
 pub kind_of_one : Leaves kind-of.Post (λ κs r s. r)
 kind_of_one κs a r r' s s' p q = p ∙ sym q

@@ -3,7 +3,7 @@
 
 ghost use Rattle.std.specs.Prelude.{◌≡◌};
 ghost use Rattle.sheet.specs.Sheet.{set_table, get_table};
-ghost use Rattle.names.specs.Names.{number_in, total_in, order_in, position_kind, kind_of, kind_from, span, replied};
+ghost use Rattle.names.specs.Names.{total_in, position_kind, kind_of, kind_from, span, replied};
 
 use brk::Brk;
 use ctl::Ctl;
@@ -16,9 +16,10 @@ use orders::Order;
 use pid::Pid;
 use position::{Position, Spos, Travel};
 use pwr::Pwr;
-use sheet::names;
+use sheet::{Block, names};
 
-// A zero, a set or a get by its number, an order, move or movr by its number, spos, gpos, the command zero, or a name that nobody knows.
+// A zero, a set or a get, an order, move or movr, spos, gpos, the command zero, or a name that nobody knows.
+// Sets, gets and moves hold the sheet's number of their block, and no enum of blocks: the table is asked for any number, and a refusal records it.
 #[derive(Clone, Copy)]
 pub enum Kind {
     Zero,
@@ -32,221 +33,129 @@ pub enum Kind {
     Unknown,
 }
 
-// The tables of sheet 01 as lists: names, and beside each name its number and the total length of its frame.
-const SET_NAMES: [usize; 9] = [
-    Mov::SET as usize,
-    Eng::SET as usize,
-    Pwr::SET as usize,
-    Eds::SET as usize,
-    Hom::SET as usize,
-    Brk::SET as usize,
-    Pid::SET as usize,
-    Ctl::SET as usize,
-    Joy::SET as usize,
+// The tables of sheet 01: each name with the number of its block or its order, and each block with the total length of its frame.
+const SETS: [(u32, usize); 9] = [
+    (Mov::SET, 1),
+    (Eng::SET, 2),
+    (Pwr::SET, 3),
+    (Eds::SET, 4),
+    (Hom::SET, 5),
+    (Brk::SET, 6),
+    (Pid::SET, 7),
+    (Ctl::SET, 11),
+    (Joy::SET, 12),
 ];
 
-const SET_NUMBERS: [usize; 9] = [1, 2, 3, 4, 5, 6, 7, 11, 12];
-
-const SET_TOTALS: [usize; 9] = [
-    Mov::TOTAL,
-    Eng::TOTAL,
-    Pwr::TOTAL,
-    Eds::TOTAL,
-    Hom::TOTAL,
-    Brk::TOTAL,
-    Pid::TOTAL,
-    Ctl::TOTAL,
-    Joy::TOTAL,
+const GETS: [(u32, usize); 9] = [
+    (Mov::GET, 1),
+    (Eng::GET, 2),
+    (Pwr::GET, 3),
+    (Eds::GET, 4),
+    (Hom::GET, 5),
+    (Brk::GET, 6),
+    (Pid::GET, 7),
+    (Ctl::GET, 11),
+    (Joy::GET, 12),
 ];
 
-const GET_NAMES: [usize; 9] = [
-    Mov::GET as usize,
-    Eng::GET as usize,
-    Pwr::GET as usize,
-    Eds::GET as usize,
-    Hom::GET as usize,
-    Brk::GET as usize,
-    Pid::GET as usize,
-    Ctl::GET as usize,
-    Joy::GET as usize,
+// By 01's numbers, as the promise finds them; `Order::at` gives the order of one.
+const ORDERS: [(u32, usize); 7] = [
+    (names::STOP, 1),
+    (names::SSTP, 2),
+    (names::PWOF, 3),
+    (names::LEFT, 4),
+    (names::RIGT, 5),
+    (names::HOME, 6),
+    (names::LOFT, 7),
 ];
 
-const GET_NUMBERS: [usize; 9] = [1, 2, 3, 4, 5, 6, 7, 11, 12];
-
-const GET_TOTALS: [usize; 9] = [
-    Mov::TOTAL,
-    Eng::TOTAL,
-    Pwr::TOTAL,
-    Eds::TOTAL,
-    Hom::TOTAL,
-    Brk::TOTAL,
-    Pid::TOTAL,
-    Ctl::TOTAL,
-    Joy::TOTAL,
+const TOTALS: [(usize, usize); 9] = [
+    (1, Mov::TOTAL),
+    (2, Eng::TOTAL),
+    (3, Pwr::TOTAL),
+    (4, Eds::TOTAL),
+    (5, Hom::TOTAL),
+    (6, Brk::TOTAL),
+    (7, Pid::TOTAL),
+    (11, Ctl::TOTAL),
+    (12, Joy::TOTAL),
 ];
 
-const ORDER_NAMES: [usize; 7] = [
-    names::STOP as usize,
-    names::SSTP as usize,
-    names::PWOF as usize,
-    names::LEFT as usize,
-    names::RIGT as usize,
-    names::HOME as usize,
-    names::LOFT as usize,
-];
-
-const ORDER_NUMBERS: [usize; 7] = [1, 2, 3, 4, 5, 6, 7];
-
-// The number of the set, the get or the order that has this name, or 0.
-fn set_named(name: u32) -> usize
-    ensures { result ≡ number_in set_table name }
+// The total length of the set of this number, and of the answer to the get; a number of none has name and CRC only.
+#[tactic(auto, using(crate::proofs::Looked::total_looked))]
+pub fn total_of(number: usize) -> usize
+    ensures set { result ≡ total_in set_table number }
+    ensures get { result ≡ total_in get_table number }
 {
-    keyed::value_of(name as usize, &SET_NAMES, &SET_NUMBERS, 0)
+    keyed::value_of(number, &TOTALS).unwrap_or(6)
 }
 
-fn get_named(name: u32) -> usize
-    ensures { result ≡ number_in get_table name }
-{
-    keyed::value_of(name as usize, &GET_NAMES, &GET_NUMBERS, 0)
-}
+impl Kind {
+    // What a name says that its unit is, where it is none of 01's.
+    #[tactic(auto, unfolding(crate::specs::Names::position_kind))]
+    fn of_position(name: u32) -> Kind
+        ensures { result ≡ position_kind name }
+    {
+        match name {
+            Travel::MOVE => Kind::Moves(8),
+            Travel::MOVR => Kind::Moves(9),
+            Spos::SET => Kind::Places,
+            Position::GET => Kind::Finds,
+            names::ZERO => Kind::Clears,
+            _ => Kind::Unknown,
+        }
+    }
 
-fn order_named(name: u32) -> usize
-    ensures { result ≡ order_in name }
-{
-    keyed::value_of(name as usize, &ORDER_NAMES, &ORDER_NUMBERS, 0)
-}
+    // What a name says that its unit is.
+    #[tactic(auto, using(crate::proofs::Looked::kind_looked))]
+    fn named(name: u32) -> Kind
+        ensures { result ≡ kind_of name }
+    {
+        if let Some(set) = keyed::value_of(name, &SETS) {
+            Kind::Set(set)
+        } else if let Some(get) = keyed::value_of(name, &GETS) {
+            Kind::Get(get)
+        } else if let Some(order) = keyed::value_of(name, &ORDERS) {
+            Kind::Gives(Order::at(order))
+        } else {
+            Kind::of_position(name)
+        }
+    }
 
-// The total length of the set of this number; a number of none has name and CRC only.
-fn set_total(number: usize) -> usize
-    ensures { result ≡ total_in set_table number }
-{
-    keyed::value_of(number, &SET_NUMBERS, &SET_TOTALS, 6)
-}
+    // What a unit is that begins with this byte, and this name from that byte on.
+    #[tactic(auto, unfolding(crate::specs::Names::kind_from))]
+    pub fn of(first: u8, name: u32) -> Kind
+        ensures { result ≡ kind_from first name }
+    {
+        if first == 0 {
+            Kind::Zero
+        } else {
+            Kind::named(name)
+        }
+    }
 
-// The total length of the answer to the get of this number.
-pub fn get_total(number: usize) -> usize
-    ensures { result ≡ total_in get_table number }
-{
-    keyed::value_of(number, &GET_NUMBERS, &GET_TOTALS, 6)
-}
+    // The length of a unit of this kind: a zero is by itself, a set has its block's total, any other is its name.
+    pub fn span(self) -> usize
+        ensures { result ≡ span self }
+    {
+        match self {
+            Kind::Zero => 1,
+            Kind::Set(k) => total_of(k),
+            Kind::Moves(_) => Travel::TOTAL,
+            Kind::Places => Spos::TOTAL,
+            _ => 4,
+        }
+    }
 
-// What a name says that its unit is, where it is none of 01's.
-fn position_kind(name: u32) -> Kind
-    ensures { result ≡ position_kind name }
-{
-    if name == Travel::MOVE {
-        return Kind::Moves(8);
-    }
-    if name == Travel::MOVR {
-        return Kind::Moves(9);
-    }
-    if name == Spos::SET {
-        return Kind::Places;
-    }
-    if name == Position::GET {
-        return Kind::Finds;
-    }
-    if name == names::ZERO {
-        return Kind::Clears;
-    }
-    Kind::Unknown
-}
-
-// What a name says that its unit is.
-fn kind_named(name: u32) -> Kind
-    ensures { result ≡ kind_of name }
-{
-    let set = set_named(name);
-    if 0 < set {
-        return Kind::Set(set);
-    }
-    let get = get_named(name);
-    if 0 < get {
-        return Kind::Get(get);
-    }
-    let order = order_named(name);
-    if 0 < order {
-        return Kind::Gives(orders::order_at(order));
-    }
-    position_kind(name)
-}
-
-// What a unit is that begins with this byte, and this name from that byte on.
-pub fn kind_of(first: u8, name: u32) -> Kind
-    ensures { result ≡ kind_from first name }
-{
-    if first == 0 {
-        return Kind::Zero;
-    }
-    kind_named(name)
-}
-
-// The length of a unit of this kind: a zero is by itself, a set has its block's total, any other is its name.
-pub fn span_of(kind: Kind) -> usize
-    ensures { result ≡ span kind }
-{
-    match kind {
-        Kind::Zero => {
-            return 1;
-        }
-        Kind::Set(k) => {
-            return set_total(k);
-        }
-        Kind::Get(_) => {
-            return 4;
-        }
-        Kind::Gives(_) => {
-            return 4;
-        }
-        Kind::Moves(_) => {
-            return Travel::TOTAL;
-        }
-        Kind::Places => {
-            return Spos::TOTAL;
-        }
-        Kind::Finds => {
-            return 4;
-        }
-        Kind::Clears => {
-            return 4;
-        }
-        Kind::Unknown => {
-            return 4;
-        }
-    }
-}
-
-// The length of the answer to a unit of this kind: a zero byte, a get's frame, or four letters.
-pub fn replied_of(kind: Kind) -> usize
-    ensures { result ≡ replied kind }
-{
-    match kind {
-        Kind::Zero => {
-            return 1;
-        }
-        Kind::Set(_) => {
-            return 4;
-        }
-        Kind::Get(k) => {
-            return get_total(k);
-        }
-        Kind::Gives(_) => {
-            return 4;
-        }
-        Kind::Moves(_) => {
-            return 4;
-        }
-        Kind::Places => {
-            return 4;
-        }
-        Kind::Finds => {
-            return Position::TOTAL;
-        }
-        Kind::Clears => {
-            return 4;
-        }
-        Kind::Unknown => {
-            return 4;
+    // The length of the answer to a unit of this kind: a zero byte, a get's frame, or four letters.
+    pub fn replied(self) -> usize
+        ensures { result ≡ replied self }
+    {
+        match self {
+            Kind::Zero => 1,
+            Kind::Get(k) => total_of(k),
+            Kind::Finds => Position::TOTAL,
+            _ => 4,
         }
     }
 }

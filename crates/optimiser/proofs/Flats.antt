@@ -1,5 +1,6 @@
 -- Laws of the flat answers, over plain variables. Assumes nothing.
-use mathlib.Core.Path.{◌≡◌, refl, sym, ap, subst, ◌∙◌}
+use Rattle.std.specs.Prelude.{Result}
+use mathlib.Core.Path.{◌≡◌, ap, subst, ◌∙◌}
 use mathlib.Core.List.{List, [], ◌∷◌}
 use Prim.Native.Nat.{ℕ, ◌≤◌}
 use Rattle.host.specs.Names.{block_at, order_at}
@@ -7,21 +8,13 @@ use Rattle.host.proofs.Numbered.{no_block, no_order}
 use Rattle.blocks.specs.declared.Blocks.{Blocks}
 use Rattle.request.specs.Request.{bad_in, frame_of, written_as, Writes}
 use Rattle.request.specs.declared.Request.{Request}
-use Rattle.request.specs.declared.Written.{Written}
-use Rattle.answer.specs.Answer.{read_as, first_answer}
-use Rattle.answer.specs.declared.Reading.{Reading}
-use Rattle.optimiser.specs.Flat.{get_asked, set_asked, order_asked, flat_written, nobody, FlatWrites, flat_read}
+use Rattle.request.specs.declared.Refused.{Refused}
+use Rattle.optimiser.specs.Flat.{get_asked, set_asked, order_asked, flat_written, nobody, FlatWrites}
 use Rattle.optimiser.specs.declared.FlatWritten.{FlatWritten}
-use Rattle.optimiser.specs.declared.FlatAnswer.{FlatAnswer}
 
--- ---- writing
-
-pub asks : (q : Request) (before after : List ℕ) (w : Written) (r : FlatWritten)
+pub asks : (q : Request) (before after : List ℕ) (w : Result ℕ Refused) (r : FlatWritten)
     → Writes (bad_in q) (frame_of q) before w after → r ≡ flat_written (written_as w) → FlatWrites (q ∷ []) before r after
 asks q before after w r h e = record { answer = e ∙ ap flat_written h.answer; buffer = h.buffer }
-
-pub asks_nothing : (before : List ℕ) (r : FlatWritten) → r ≡ nobody → FlatWrites [] before r before
-asks_nothing before r e = record { answer = e; buffer = refl }
 
 -- the same asked
 pub asks_as : {before after : List ℕ} {r : FlatWritten} (p q : List Request) → p ≡ q → FlatWrites p before r after → FlatWrites q before r after
@@ -40,9 +33,3 @@ module _ {before after : List ℕ} {r : FlatWritten} (n : ℕ) (outside : 1 ≤ 
 
   pub order_outside : FlatWrites (order_asked (order_at n)) before r after → (r ≡ nobody) × (after ≡ before)
   order_outside = refused_nine _ (ap order_asked (no_order n outside))
-
--- ---- reading
-
--- the first answer of s, read as t
-pub reads : (s : List ℕ) (x t : Reading) → read_as x ≡ first_answer s → x ≡ t → (r : FlatAnswer) → r ≡ flat_read (read_as t) → r ≡ flat_read (first_answer s)
-reads s x t e is r h = h ∙ ap (λ (y : Reading). flat_read (read_as y)) (sym is) ∙ ap flat_read e

@@ -1,10 +1,8 @@
 -- The host's answers, flat, by the numbers of sheets 01 and 02 (P1).
-use Rattle.std.specs.Prelude.{List, [], ◌∷◌, ◌≡◌, ℕ, length}
+use Rattle.std.specs.Prelude.{List, [], ◌∷◌, ◌≡◌, ℕ, length, Option, Some, None}
 use Rattle.host.specs.Names.{block_number, order_number}
-use Rattle.host.specs.declared.FoundBlock.{FoundBlock}
-use Rattle.host.specs.declared.FoundBlock.TheVariants as block
-use Rattle.host.specs.declared.FoundOrder.{FoundOrder}
-use Rattle.host.specs.declared.FoundOrder.TheVariants as order
+use Rattle.host.specs.declared.Block.{Block}
+use Rattle.host.specs.declared.Order.{Order}
 use Rattle.fields.specs.Fields.{block_of}
 use Rattle.blocks.specs.Blocks.{fields_at, fresh_blocks, blocks_with}
 use Rattle.blocks.specs.declared.Blocks.{Blocks}
@@ -20,17 +18,17 @@ use Rattle.optimiser.specs.declared.FlatAnswer.{FlatAnswer}
 -- ---- writing
 
 -- the request that was asked by a number: one, or none where the number is nobody's
-abbrev pub get_asked : FoundBlock → List Request
-get_asked (block.Known b) = Get b ∷ []
-get_asked block.Nobody = []
+abbrev pub get_asked : Option Block → List Request
+get_asked (Some b) = Get b ∷ []
+get_asked None = []
 
-abbrev pub set_asked : Blocks → FoundBlock → List Request
-set_asked x (block.Known b) = Set (fields_at x b) ∷ []
-set_asked x block.Nobody = []
+abbrev pub set_asked : Blocks → Option Block → List Request
+set_asked x (Some b) = Set (fields_at x b) ∷ []
+set_asked x None = []
 
-abbrev pub order_asked : FoundOrder → List Request
-order_asked (order.Known o) = Give o ∷ []
-order_asked order.Nobody = []
+abbrev pub order_asked : Option Order → List Request
+order_asked (Some o) = Give o ∷ []
+order_asked None = []
 
 abbrev pub flat_written : Wrote → FlatWritten
 flat_written w = record { number = w.number; size = w.size }

@@ -6,7 +6,8 @@ ghost use Rattle.orders.specs.Orders.{order_at, order_number, order_travel};
 
 use position::{Microsteps, Steps, Travel};
 
-#[derive(Clone, Copy)]
+// With `Nothing` and no Option of an order: sheet 01 names this form, a call's result that holds an order enum.
+#[derive(Clone, Copy, PartialEq, Eq)]
 pub enum Order {
     Nothing,
     Stop,
@@ -20,154 +21,57 @@ pub enum Order {
     Movr(Travel),
 }
 
-// The order of a number; 0 and any other number give none. A match and no index: an array that is indexed is laid out at every call.
-pub fn order_at(number: usize) -> Order
-    ensures { result ≡ order_at number }
-{
-    match number {
-        1 => {
-            return Order::Stop;
-        }
-        2 => {
-            return Order::Sstp;
-        }
-        3 => {
-            return Order::Pwof;
-        }
-        4 => {
-            return Order::Left;
-        }
-        5 => {
-            return Order::Rigt;
-        }
-        6 => {
-            return Order::Home;
-        }
-        7 => {
-            return Order::Loft;
-        }
-        _ => {
-            return Order::Nothing;
+impl Order {
+    // The order of a number; 0 and any other number give none. A match and no index: an array that is indexed is laid out at every call.
+    pub fn at(number: usize) -> Order
+        ensures { result ≡ order_at number }
+    {
+        match number {
+            1 => Order::Stop,
+            2 => Order::Sstp,
+            3 => Order::Pwof,
+            4 => Order::Left,
+            5 => Order::Rigt,
+            6 => Order::Home,
+            7 => Order::Loft,
+            _ => Order::Nothing,
         }
     }
-}
 
-// 01's number of an order, 0 for none.
-pub fn order_number(order: Order) -> u8
-    ensures { result ≡ order_number order }
-{
-    match order {
-        Order::Nothing => {
-            return 0;
-        }
-        Order::Stop => {
-            return 1;
-        }
-        Order::Sstp => {
-            return 2;
-        }
-        Order::Pwof => {
-            return 3;
-        }
-        Order::Left => {
-            return 4;
-        }
-        Order::Rigt => {
-            return 5;
-        }
-        Order::Home => {
-            return 6;
-        }
-        Order::Loft => {
-            return 7;
-        }
-        Order::Move(_) => {
-            return 8;
-        }
-        Order::Movr(_) => {
-            return 9;
+    // 01's number of an order, 0 for none.
+    pub fn number(self) -> u8
+        ensures { result ≡ order_number self }
+    {
+        match self {
+            Order::Nothing => 0,
+            Order::Stop => 1,
+            Order::Sstp => 2,
+            Order::Pwof => 3,
+            Order::Left => 4,
+            Order::Rigt => 5,
+            Order::Home => 6,
+            Order::Loft => 7,
+            Order::Move(_) => 8,
+            Order::Movr(_) => 9,
         }
     }
-}
 
-// The steps that an order carries, and the microsteps; most carry none. Each by itself: of a match that gives both at once the compiler makes a branch,
-// and moves the board once more at each way out of a call.
-pub fn order_steps(order: Order) -> Steps
-    ensures { result ≡ (order_travel order).steps }
-{
-    let none = Steps(0);
-    match order {
-        Order::Nothing => {
-            return none;
-        }
-        Order::Stop => {
-            return none;
-        }
-        Order::Sstp => {
-            return none;
-        }
-        Order::Pwof => {
-            return none;
-        }
-        Order::Left => {
-            return none;
-        }
-        Order::Rigt => {
-            return none;
-        }
-        Order::Home => {
-            return none;
-        }
-        Order::Loft => {
-            return none;
-        }
-        Order::Move(travel) => {
-            let steps = travel.steps;
-            return steps;
-        }
-        Order::Movr(travel) => {
-            let steps = travel.steps;
-            return steps;
+    // What an order carries; most carry none. Not both at once: of such a match the compiler makes a branch, and moves the board once more at each way out.
+    pub fn steps(self) -> Steps
+        ensures { result ≡ (order_travel self).steps }
+    {
+        match self {
+            Order::Move(travel) | Order::Movr(travel) => travel.steps,
+            _ => Steps(0),
         }
     }
-}
 
-pub fn order_microsteps(order: Order) -> Microsteps
-    ensures { result ≡ (order_travel order).microsteps }
-{
-    let none = Microsteps(0);
-    match order {
-        Order::Nothing => {
-            return none;
-        }
-        Order::Stop => {
-            return none;
-        }
-        Order::Sstp => {
-            return none;
-        }
-        Order::Pwof => {
-            return none;
-        }
-        Order::Left => {
-            return none;
-        }
-        Order::Rigt => {
-            return none;
-        }
-        Order::Home => {
-            return none;
-        }
-        Order::Loft => {
-            return none;
-        }
-        Order::Move(travel) => {
-            let microsteps = travel.microsteps;
-            return microsteps;
-        }
-        Order::Movr(travel) => {
-            let microsteps = travel.microsteps;
-            return microsteps;
+    pub fn microsteps(self) -> Microsteps
+        ensures { result ≡ (order_travel self).microsteps }
+    {
+        match self {
+            Order::Move(travel) | Order::Movr(travel) => travel.microsteps,
+            _ => Microsteps(0),
         }
     }
 }

@@ -1,13 +1,13 @@
 -- Each public function's promise leaves one answer. Assumes nothing.
 use mathlib.Core.Path.{sym, ◌∙◌}
 use Rattle.promise.specs.Promise.{Leaves}
-use Rattle.pid.proofs.Pid.head.Reads as head
-use Rattle.pid.proofs.Pid.decode.Reads as decode
+use Rattle.pid.proofs.PidBlock.head.Reads as head
+use Rattle.pid.proofs.PidSection.decode.Reads as decode
 use Rattle.pid.proofs.Pid.numbers.Reads as numbers
-use Rattle.pid.proofs.Pid.encode.Reads as encode
-use Rattle.pid.proofs.Pid.first_bad.Reads as first-bad
-use Rattle.pid.proofs.Pid.is_sound.Reads as is-sound
-use Rattle.pid.proofs.Pid.fresh.Reads as fresh
+use Rattle.pid.proofs.PidBlock.encode.Reads as encode
+use Rattle.pid.proofs.PidSection.first_bad.Reads as first-bad
+use Rattle.pid.proofs.PidBlock.is_sound.Reads as is-sound
+use Rattle.pid.proofs.PidBlock.fresh.Reads as fresh
 
 pub head_one : Leaves head.Post (λ κs r s. r)
 head_one κs a r r' s s' p q = p ∙ sym q

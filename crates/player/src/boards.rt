@@ -2,76 +2,59 @@
 // writes its fields. What is printed goes through functions that hold no board: a statement beside a board makes a long proof.
 use crate::print;
 use orders::Order;
-use position::{Count, Microsteps, Position, Steps};
-use state::{Board, Report};
+use position::Position;
+use sheet::Section;
+use state::{Board, Refusal};
 use std::io;
 use std::io::Write;
 use table::Table;
 use unit::Notes;
-
-fn changed(settings: Table, place: usize, bytes: &[u8]) -> Table {
-    let mut table = settings.bytes;
-    wire::copy(&mut table, place, bytes);
-    Table { bytes: table }
-}
+use wire::Number;
 
 pub fn put(mut board: Board, place: usize, bytes: &[u8]) -> Board {
-    let mut memory = board.memory;
-    let settings = memory.settings;
-    memory.settings = changed(settings, place, bytes);
-    board.memory = memory;
+    wire::copy(&mut board.memory.settings.bytes, place, bytes);
     board
 }
 
 fn notes_in(numbers: &[u8]) -> Notes {
     Notes {
-        flags: wire::u32_at(numbers, 0) as usize,
-        block: wire::u32_at(numbers, 4) as usize,
-        field: wire::u32_at(numbers, 8) as usize,
+        flags: u32::read(numbers, 0) as usize,
+        block: u32::read(numbers, 4) as usize,
+        field: u32::read(numbers, 8) as usize,
     }
 }
 
 pub fn note(mut board: Board, numbers: &[u8]) -> Board {
-    let mut memory = board.memory;
-    memory.notes = notes_in(numbers);
-    board.memory = memory;
+    board.memory.notes = notes_in(numbers);
     board
-}
-
-fn position_in(numbers: &[u8]) -> Position {
-    Position {
-        steps: Steps(values::i32_at(numbers, 0)),
-        microsteps: Microsteps(values::i16_at(numbers, 4)),
-        count: Count(values::i64_at(numbers, 6)),
-    }
 }
 
 pub fn place(mut board: Board, numbers: &[u8]) -> Board {
-    let mut memory = board.memory;
-    memory.position = position_in(numbers);
-    board.memory = memory;
+    board.memory.position = Position::decode(numbers);
     board
 }
 
-pub fn hold(mut board: Board, count: usize, stamp: u32, bytes: &[u8]) -> Board {
+pub fn hold(board: Board, count: usize, stamp: u32, bytes: &[u8]) -> Board {
     let mut held = [0u8; sheet::FRAME];
     wire::copy(&mut held, 0, bytes);
-    board.held = held;
-    board.count = count;
-    board.stamp = stamp;
-    board
+    Board {
+        held,
+        count,
+        stamp,
+        ..board
+    }
 }
 
 fn show_notes(out: &mut impl Write, notes: Notes) -> io::Result<()> {
-    print::number(out, notes.flags)?;
-    print::number(out, notes.block)?;
-    print::number(out, notes.field)
+    write!(out, " {} {} {}", notes.flags, notes.block, notes.field)
 }
 
 fn show_position(out: &mut impl Write, position: Position) -> io::Result<()> {
-    print::signed(out, b" ", values::wide32(position.steps.0))?;
-    print::signed(out, b":", values::wide16(position.microsteps.0))?;
-    print::signed(out, b":", position.count.0)
+    write!(
+        out,
+        " {}:{}:{}",
+        position.steps.0, position.microsteps.0, position.count.0
+    )
 }
 
 fn show_line(out: &mut impl Write, held: &[u8], count: usize, stamp: u32) -> io::Result<()> {
@@ -98,11 +81,7 @@ fn show_reply(
     written: usize,
     extent: usize,
 ) -> io::Result<()> {
-    if written < extent {
-        print::beginning(out, buffer, extent)
-    } else {
-        print::beginning(out, buffer, written)
-    }
+    print::beginning(out, buffer, written.max(extent))
 }
 
 // As the bench prints it: 20 bytes hold the longest.
@@ -120,9 +99,7 @@ fn show_call(
     written: usize,
     order: Order,
 ) -> io::Result<()> {
-    print::number(out, number as usize)?;
-    print::number(out, taken)?;
-    print::number(out, written)?;
+    write!(out, " {number} {taken} {written}")?;
     show_order(out, order)
 }
 
@@ -135,12 +112,19 @@ fn call_in(
     piece: &[u8],
     buffer: &mut [u8],
 ) -> io::Result<Board> {
-    let size = print::within(buffer, room);
-    let call = receiver::receive(board, piece, stamp, &mut buffer[..size]);
-    let order = call.order;
-    show_call(out, call.number, call.taken, call.written, order)?;
-    show_reply(out, buffer, call.written, extent)?;
-    show_rest(out, call.board)
+    let size = room.min(buffer.len());
+    match receiver::receive(board, piece, stamp, &mut buffer[..size]) {
+        Ok(done) => {
+            show_call(out, 0, done.taken, done.written, done.order)?;
+            show_reply(out, buffer, done.written, extent)?;
+            show_rest(out, done.board)
+        }
+        Err(refusal) => {
+            show_call(out, u8::from(refusal), 0, 0, Order::Nothing)?;
+            show_reply(out, buffer, 0, extent)?;
+            show_rest(out, board)
+        }
+    }
 }
 
 pub fn call(
@@ -151,21 +135,35 @@ pub fn call(
     stamp: u32,
     piece: &[u8],
 ) -> io::Result<Board> {
-    let mut buffer = print::buffer();
+    let mut buffer = print::BUFFER;
     call_in(out, board, extent, room, stamp, piece, &mut buffer)
 }
 
-fn show_report(out: &mut impl Write, report: Report) -> io::Result<Board> {
-    print::number(out, report.number as usize)?;
-    show_rest(out, report.board)
+// A refused report leaves the board as it was.
+fn show_report(
+    out: &mut impl Write,
+    board: Board,
+    answer: Result<Board, Refusal>,
+) -> io::Result<Board> {
+    match answer {
+        Ok(next) => {
+            print::number(out, 0)?;
+            show_rest(out, next)
+        }
+        Err(refusal) => {
+            print::number(out, usize::from(u8::from(refusal)))?;
+            show_rest(out, board)
+        }
+    }
 }
 
 pub fn report_time(out: &mut impl Write, board: Board, now: u32) -> io::Result<Board> {
-    show_report(out, clock::report_time(board, now))
+    show_report(out, board, clock::report_time(board, now))
 }
 
 pub fn report_position(out: &mut impl Write, board: Board, numbers: &[u8]) -> io::Result<Board> {
-    show_report(out, drive::report_position(board, position_in(numbers)))
+    let answer = drive::report_position(board, Position::decode(numbers));
+    show_report(out, board, answer)
 }
 
 fn show_buffer(out: &mut impl Write, number: u8, buffer: &[u8], room: usize) -> io::Result<()> {
@@ -180,33 +178,34 @@ fn hand_out_in(
     room: usize,
     buffer: &mut [u8],
 ) -> io::Result<()> {
-    let size = print::within(buffer, room);
-    let number = flash::hand_out(board, &mut buffer[..size]);
+    let size = room.min(buffer.len());
+    let number = match flash::hand_out(board, &mut buffer[..size]) {
+        Ok(()) => 0,
+        Err(refusal) => u8::from(refusal),
+    };
     show_buffer(out, number, buffer, size)
 }
 
 pub fn hand_out(out: &mut impl Write, board: Board, room: usize) -> io::Result<Board> {
-    let mut buffer = print::buffer();
+    let mut buffer = print::BUFFER;
     hand_out_in(out, board, room, &mut buffer)?;
     Ok(board)
 }
 
 pub fn take_back(out: &mut impl Write, bytes: &[u8]) -> io::Result<Board> {
-    show_report(out, flash::take_back(bytes))
+    show_report(out, Board::fresh(), flash::take_back(bytes))
 }
 
 fn show_section(out: &mut impl Write, settings: Table, number: usize) -> io::Result<()> {
     let mut section = [0xeeu8; sheet::FRAME];
-    let bytes = settings.bytes;
-    table::get(&bytes, number, &mut section);
-    print::number(out, table::bad_in(number, &section))?;
+    table::get(&settings.bytes, number, &mut section);
+    print::number(out, table::bad_in(number, &section).unwrap_or(0))?;
     print::hexadecimal(out, &section)?;
     print::say(out, b"\n")
 }
 
 pub fn show_block(out: &mut impl Write, board: Board, number: usize) -> io::Result<Board> {
-    let settings = board.memory.settings;
-    show_section(out, settings, number)?;
+    show_section(out, board.memory.settings, number)?;
     Ok(board)
 }
 

@@ -1,9 +1,9 @@
 // The host: a request written, an answer read. No other file names what the host has.
 use crate::print;
-use answer::{Answer, Reading};
+use answer::{Answer, Reading, Unread};
 use fields::Fields;
-use host::{FoundBlock, FoundOrder};
-use request::{Request, Written};
+use host::{Block, Order};
+use request::{Refused, Request};
 use std::io;
 use std::io::Write;
 
@@ -12,11 +12,10 @@ fn verdict(out: &mut impl Write, number: usize, length: usize) -> io::Result<()>
     print::number(out, length)
 }
 
-fn show_written(out: &mut impl Write, written: Written) -> io::Result<()> {
+fn show_written(out: &mut impl Write, written: Result<usize, Refused>) -> io::Result<()> {
     match written {
-        Written::Frame(length) => verdict(out, 0, length),
-        Written::OutOfRange => verdict(out, 3, 0),
-        Written::TooShort => verdict(out, 4, 0),
+        Ok(length) => verdict(out, 0, length),
+        Err(refused) => verdict(out, usize::from(u8::from(refused)), 0),
     }
 }
 
@@ -26,7 +25,7 @@ fn write_in(
     room: usize,
     buffer: &mut [u8],
 ) -> io::Result<()> {
-    let size = print::within(buffer, room);
+    let size = room.min(buffer.len());
     let written = request::write(asked, &mut buffer[..size]);
     show_written(out, written)?;
     print::beginning(out, buffer, size)?;
@@ -34,7 +33,7 @@ fn write_in(
 }
 
 fn write(out: &mut impl Write, asked: Request, room: usize) -> io::Result<()> {
-    let mut buffer = print::buffer();
+    let mut buffer = print::BUFFER;
     write_in(out, asked, room, &mut buffer)
 }
 
@@ -44,7 +43,7 @@ fn nobody(out: &mut impl Write) -> io::Result<()> {
 }
 
 pub fn write_get(out: &mut impl Write, number: usize, room: usize) -> io::Result<()> {
-    let FoundBlock::Known(block) = host::block_at(number) else {
+    let Some(block) = Block::at(number) else {
         return nobody(out);
     };
     write(out, Request::Get(block), room)
@@ -56,14 +55,14 @@ pub fn write_set(
     room: usize,
     section: &[u8],
 ) -> io::Result<()> {
-    let FoundBlock::Known(block) = host::block_at(number) else {
+    let Some(block) = Block::at(number) else {
         return nobody(out);
     };
-    write(out, Request::Set(fields::decode(block, section)), room)
+    write(out, Request::Set(Fields::decode(block, section)), room)
 }
 
 pub fn write_order(out: &mut impl Write, number: usize, room: usize) -> io::Result<()> {
-    let FoundOrder::Known(order) = host::order_at(number) else {
+    let Some(order) = Order::at(number) else {
         return nobody(out);
     };
     write(out, Request::Give(order), room)
@@ -78,21 +77,17 @@ fn letters(out: &mut impl Write, name: u32) -> io::Result<()> {
 }
 
 fn show_data(out: &mut impl Write, data: Fields) -> io::Result<()> {
-    let head = host::head_of(fields::block_of(data));
-    letters(out, head.get)?;
+    letters(out, data.block().head().get)?;
     let mut section = [0xeeu8; host::FRAME];
-    fields::encode(data, &mut section);
+    data.encode(&mut section);
     print::hexadecimal(out, &section)
 }
 
 fn show_answer(out: &mut impl Write, read: Answer) -> io::Result<()> {
     match read {
         Answer::Zero => print::say(out, b" zero"),
-        Answer::SetEcho(block) => {
-            let head = host::head_of(block);
-            letters(out, head.set)
-        }
-        Answer::OrderEcho(order) => letters(out, host::order_name(order)),
+        Answer::SetEcho(block) => letters(out, block.head().set),
+        Answer::OrderEcho(order) => letters(out, order.name()),
         Answer::Data(data) => show_data(out, data),
         Answer::Errc => letters(out, sheet::names::ERRC),
         Answer::Errd => letters(out, sheet::names::ERRD),
@@ -100,16 +95,13 @@ fn show_answer(out: &mut impl Write, read: Answer) -> io::Result<()> {
     }
 }
 
-fn show_reading(out: &mut impl Write, reading: Reading) -> io::Result<()> {
-    match reading {
-        Reading::Took(length, read) => {
-            verdict(out, 0, length)?;
-            show_answer(out, read)
+fn show_reading(out: &mut impl Write, read: Result<Reading, Unread>) -> io::Result<()> {
+    match read {
+        Ok(Reading { size, answer }) => {
+            verdict(out, 0, size)?;
+            show_answer(out, answer)
         }
-        Reading::NoName => verdict(out, 5, 0),
-        Reading::NoAnswer => verdict(out, 6, 0),
-        Reading::Cut => verdict(out, 7, 0),
-        Reading::Damaged => verdict(out, 8, 0),
+        Err(unread) => verdict(out, usize::from(u8::from(unread)), 0),
     }
 }
 

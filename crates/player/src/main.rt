@@ -41,6 +41,7 @@ ghost use Rattle.streams.specs.Streams.{IsPrefixLen, IsPartly};
 use state::Board;
 use std::io;
 use std::io::{Read, Write};
+use wire::Number;
 
 // What stands in front of a case's bytes.
 #[derive(Clone, Copy)]
@@ -54,18 +55,20 @@ struct Head {
 
 fn head_of(case: &[u8]) -> Head {
     Head {
-        operation: wire::u8_at(case, 0),
-        number: wire::u8_at(case, 1) as usize,
-        room: wire::u16_at(case, 2) as usize,
-        stamp: wire::u32_at(case, 4),
-        count: wire::u16_at(case, 8) as usize,
+        operation: u8::read(case, 0),
+        number: u8::read(case, 1) as usize,
+        room: u16::read(case, 2) as usize,
+        stamp: u32::read(case, 4),
+        count: u16::read(case, 8) as usize,
     }
 }
 
+// The operations by their letters, in three steps, by what a case does to the board. No enum stands between: it would name each letter of the format
+// once more.
+
 // A case without a board.
 fn show(out: &mut impl Write, head: Head, bytes: &[u8]) -> io::Result<()> {
-    let operation = head.operation;
-    match operation {
+    match head.operation {
         b'"' => print::say(out, bytes),
         b'g' => hosts::write_get(out, head.number, head.room),
         b's' => hosts::write_set(out, head.number, head.room, bytes),
@@ -79,8 +82,7 @@ fn show(out: &mut impl Write, head: Head, bytes: &[u8]) -> io::Result<()> {
 
 // A call, a report, a look at the board, or a case without one; the next board.
 fn ask(out: &mut impl Write, head: Head, board: Board, bytes: &[u8]) -> io::Result<Board> {
-    let operation = head.operation;
-    match operation {
+    match head.operation {
         b'c' => boards::call(out, board, head.number, head.room, head.stamp, bytes),
         b'r' => boards::report_time(out, board, head.stamp),
         b'd' => boards::report_position(out, board, bytes),
@@ -96,9 +98,8 @@ fn ask(out: &mut impl Write, head: Head, board: Board, bytes: &[u8]) -> io::Resu
 
 // One case; the next board.
 fn step(out: &mut impl Write, head: Head, board: Board, bytes: &[u8]) -> io::Result<Board> {
-    let operation = head.operation;
-    match operation {
-        b'f' => Ok(state::fresh()),
+    match head.operation {
+        b'f' => Ok(Board::fresh()),
         b't' => boards::take_back(out, bytes),
         b'p' => Ok(boards::put(board, head.room, bytes)),
         b'n' => Ok(boards::note(board, bytes)),
@@ -113,9 +114,8 @@ fn read_in<R: Read>(input: &mut R, asked: usize, buffer: &mut [u8]) -> io::Resul
     ensures ok { IfOk result (λ n. IsPrefixLen n buffer.new) }
     ensures err { OnErr result (IsPartly (R.remaining input.old) (R.remaining input.new) buffer.new) }
 {
-    let room = print::within(buffer, asked);
-    let got = streams::read_full(input, &mut buffer[..room])?;
-    Ok(print::within(buffer, got))
+    let room = asked.min(buffer.len());
+    streams::read_full(input, &mut buffer[..room])
 }
 
 fn step_in(
@@ -135,7 +135,7 @@ fn step_behind(
     start: &[u8],
     board: Board,
 ) -> io::Result<Board> {
-    let mut bytes = print::buffer();
+    let mut bytes = print::BUFFER;
     step_in(input, out, head_of(start), board, &mut bytes)
 }
 
@@ -143,7 +143,7 @@ fn step_behind(
 fn main(rt: HostRuntime) -> io::Result<()> {
     let mut input = rt.stdin();
     let mut out = rt.stdout();
-    let mut board = state::fresh();
+    let mut board = Board::fresh();
     for _ in 0..1000000 {
         let mut start = [0u8; 10];
         if streams::read_full(&mut input, &mut start)? < 10 {

@@ -2,48 +2,30 @@
 // another.
 #![tactic(auto)]
 
-ghost use Rattle.std.specs.Prelude.{cond, ◌≡◌};
+ghost use Rattle.std.specs.Prelude.{◌≡◌};
 ghost use Rattle.std.proofs.lemmas.List.Edits.{sets};
-ghost use Rattle.std.specs.Int.{w16, w32, w64};
-ghost use Rattle.std.proofs.Common.{of_z};
 ghost use Rattle.sheet.specs.Sheet.{move_row, spos_row, gpos_row};
-ghost use Rattle.sheet.specs.Rows.{numbers_in, data_of, first_bad};
-ghost use Rattle.position.specs.Position.{travel_of, travel_numbers, spos_of, spos_numbers, position_numbers, fresh_position, cleared, placed};
+ghost use Rattle.sheet.specs.Rows.{data_of};
+ghost use Rattle.position.specs.Position.{travel_of, travel_numbers, spos_of, spos_numbers, position_of, position_numbers, fresh_position, cleared, placed};
+
+use sheet::Section;
+use wire::Number;
 
 #[repr(C)]
-#[derive(Clone, Copy)]
+#[derive(Clone, Copy, PartialEq, Eq)]
 pub struct Steps(pub i32);
 
 #[repr(C)]
-#[derive(Clone, Copy)]
+#[derive(Clone, Copy, PartialEq, Eq)]
 pub struct Microsteps(pub i16);
 
 #[repr(C)]
-#[derive(Clone, Copy)]
+#[derive(Clone, Copy, PartialEq, Eq)]
 pub struct Count(pub i64);
-
-// The number of each as it stands on the wire.
-fn steps_number(steps: Steps) -> u64
-    ensures { result ≡ of_z w32 steps.0 }
-{
-    values::u32_of(steps.0) as u64
-}
-
-fn microsteps_number(microsteps: Microsteps) -> u64
-    ensures { result ≡ of_z w16 microsteps.0 }
-{
-    values::u16_of(microsteps.0) as u64
-}
-
-fn count_number(count: Count) -> u64
-    ensures { result ≡ of_z w64 count.0 }
-{
-    values::u64_of(count.0)
-}
 
 // What move and movr carry, blocks 8 and 9: where to go, or how far.
 #[repr(C)]
-#[derive(Clone, Copy)]
+#[derive(Clone, Copy, PartialEq, Eq)]
 pub struct Travel {
     pub steps: Steps,
     pub microsteps: Microsteps,
@@ -55,27 +37,31 @@ impl Travel {
     pub const MOVE: u32 = 0x65766f6d;
 
     pub const MOVR: u32 = 0x72766f6d;
+}
 
-    pub fn decode(part: &[u8]) -> Travel
-        ensures { result ≡ travel_of (numbers_in move_row part.now) }
-    {
+impl Section for Travel {
+    ghost sheet_row = { move_row };
+
+    ghost of = { travel_of };
+
+    ghost to = { travel_numbers };
+
+    fn decode(part: &[u8]) -> Travel {
         Travel {
-            steps: Steps(values::i32_at(part, 0)),
-            microsteps: Microsteps(values::i16_at(part, 4)),
+            steps: Steps(Number::read(part, 0)),
+            microsteps: Microsteps(Number::read(part, 4)),
         }
     }
 
-    pub fn first_bad(self) -> usize
-        ensures { result ≡ first_bad move_row (travel_numbers self) }
-    {
-        let n = microsteps_number(self.microsteps);
+    fn first_bad(self) -> Option<usize> {
+        let n = self.microsteps.0.number();
         ranges::first_false(&[true, ranges::is_signed_within(255, n)])
     }
 }
 
 // Where the drive stands; gpos sends it.
 #[repr(C)]
-#[derive(Clone, Copy)]
+#[derive(Clone, Copy, PartialEq, Eq)]
 pub struct Position {
     pub steps: Steps,
     pub microsteps: Microsteps,
@@ -100,71 +86,49 @@ impl Position {
     pub fn encode(self, out: &mut [u8])
         ensures { out.new ≡ sets out.old 0 (data_of gpos_row (position_numbers self)) }
     {
-        let steps = steps_number(self.steps);
-        let microsteps = microsteps_number(self.microsteps);
-        let count = count_number(self.count);
+        let steps = self.steps.0.number();
+        let microsteps = self.microsteps.0.number();
+        let count = self.count.0.number();
         wire::lay(out, &[4, 2, 8, 6], &[steps, microsteps, count])
-    }
-
-    pub fn first_bad(self) -> usize
-        ensures { result ≡ first_bad gpos_row (position_numbers self) }
-    {
-        let n = microsteps_number(self.microsteps);
-        ranges::first_false(&[true, ranges::is_signed_within(255, n), true])
     }
 
     // What zero makes of it.
     pub fn cleared(self) -> Position
         ensures { result ≡ cleared self }
     {
-        let count = self.count;
         Position {
-            steps: Steps(0),
-            microsteps: Microsteps(0),
-            count,
+            count: self.count,
+            ..Position::fresh()
         }
     }
 }
 
+impl Section for Position {
+    ghost sheet_row = { gpos_row };
+
+    ghost of = { position_of };
+
+    ghost to = { position_numbers };
+
+    fn decode(part: &[u8]) -> Position {
+        Position {
+            steps: Steps(Number::read(part, 0)),
+            microsteps: Microsteps(Number::read(part, 4)),
+            count: Count(Number::read(part, 6)),
+        }
+    }
+
+    fn first_bad(self) -> Option<usize> {
+        let n = self.microsteps.0.number();
+        ranges::first_false(&[true, ranges::is_signed_within(255, n), true])
+    }
+}
+
 // What spos carries, block 10.
-#[derive(Clone, Copy)]
+#[derive(Clone, Copy, PartialEq, Eq)]
 pub struct Spos {
     pub position: Position,
     pub flags: u8,
-}
-
-// The position `new`, or with the steps and microsteps of `old`.
-fn travelled(leaves: bool, old: Position, new: Position) -> Position
-    ensures { result ≡ record { steps = cond leaves old.steps new.steps; microsteps = cond leaves old.microsteps new.microsteps; count = new.count } }
-{
-    if leaves {
-        let steps = old.steps;
-        let microsteps = old.microsteps;
-        let count = new.count;
-        return Position {
-            steps,
-            microsteps,
-            count,
-        };
-    }
-    new
-}
-
-// The position `new`, or with the count of `old`.
-fn counted(leaves: bool, old: Position, new: Position) -> Position
-    ensures { result ≡ record { steps = new.steps; microsteps = new.microsteps; count = cond leaves old.count new.count } }
-{
-    if leaves {
-        let steps = new.steps;
-        let microsteps = new.microsteps;
-        let count = old.count;
-        return Position {
-            steps,
-            microsteps,
-            count,
-        };
-    }
-    new
 }
 
 impl Spos {
@@ -172,40 +136,45 @@ impl Spos {
 
     pub const SET: u32 = 0x736f7073;
 
-    pub fn decode(part: &[u8]) -> Spos
-        ensures { result ≡ spos_of (numbers_in spos_row part.now) }
-    {
-        let position = Position {
-            steps: Steps(values::i32_at(part, 0)),
-            microsteps: Microsteps(values::i16_at(part, 4)),
-            count: Count(values::i64_at(part, 6)),
-        };
-        Spos {
-            position,
-            flags: wire::u8_at(part, 14),
-        }
-    }
-
-    pub fn first_bad(self) -> usize
-        ensures { result ≡ first_bad spos_row (spos_numbers self) }
-    {
-        let position = self.position;
-        let n = microsteps_number(position.microsteps);
-        ranges::first_false(&[
-            true,
-            ranges::is_signed_within(255, n),
-            true,
-            ranges::has_only_bits(0x03, self.flags as u64),
-        ])
-    }
-
     // Where a drive stands then that stood at `old`.
     pub fn placed(self, old: Position) -> Position
         ensures { result ≡ placed self old }
     {
-        let new = self.position;
-        let travel = self.flags % 2 == 1;
-        let count = self.flags / 2 % 2 == 1;
-        counted(count, old, travelled(travel, old, new))
+        let leaves_travel = self.flags % 2 == 1;
+        let leaves_count = self.flags / 2 % 2 == 1;
+        let mut next = self.position;
+        if leaves_travel {
+            next.steps = old.steps;
+            next.microsteps = old.microsteps;
+        }
+        if leaves_count {
+            next.count = old.count;
+        }
+        next
+    }
+}
+
+impl Section for Spos {
+    ghost sheet_row = { spos_row };
+
+    ghost of = { spos_of };
+
+    ghost to = { spos_numbers };
+
+    fn decode(part: &[u8]) -> Spos {
+        Spos {
+            position: Position::decode(part),
+            flags: Number::read(part, 14),
+        }
+    }
+
+    fn first_bad(self) -> Option<usize> {
+        let n = self.position.microsteps.0.number();
+        ranges::first_false(&[
+            true,
+            ranges::is_signed_within(255, n),
+            true,
+            ranges::has_only_bits(0x03, self.flags.number()),
+        ])
     }
 }

@@ -1,13 +1,13 @@
 -- Each public function's promise leaves one answer. Assumes nothing.
 use mathlib.Core.Path.{sym, ◌∙◌}
 use Rattle.promise.specs.Promise.{Leaves}
-use Rattle.pwr.proofs.Pwr.head.Reads as head
-use Rattle.pwr.proofs.Pwr.decode.Reads as decode
+use Rattle.pwr.proofs.PwrBlock.head.Reads as head
+use Rattle.pwr.proofs.PwrSection.decode.Reads as decode
 use Rattle.pwr.proofs.Pwr.numbers.Reads as numbers
-use Rattle.pwr.proofs.Pwr.encode.Reads as encode
-use Rattle.pwr.proofs.Pwr.first_bad.Reads as first-bad
-use Rattle.pwr.proofs.Pwr.is_sound.Reads as is-sound
-use Rattle.pwr.proofs.Pwr.fresh.Reads as fresh
+use Rattle.pwr.proofs.PwrBlock.encode.Reads as encode
+use Rattle.pwr.proofs.PwrSection.first_bad.Reads as first-bad
+use Rattle.pwr.proofs.PwrBlock.is_sound.Reads as is-sound
+use Rattle.pwr.proofs.PwrBlock.fresh.Reads as fresh
 
 pub head_one : Leaves head.Post (λ κs r s. r)
 head_one κs a r r' s s' p q = p ∙ sym q

@@ -1,5 +1,5 @@
 -- Tests of a number as it stands on the wire, where it is unsigned whatever its field's kind (01, "Blocks", the ranges).
-use Rattle.std.specs.Prelude.{Bool, true, false, cond, not, ◌&&◌, ◌||◌, List, [], ◌∷◌, leb, eqb, ℕ, ◌+◌, ◌-◌, ◌/◌, ◌%◌, ◌^◌}
+use Rattle.std.specs.Prelude.{Bool, true, false, cond, not, ◌&&◌, ◌||◌, List, [], ◌∷◌, Option, None, Some, leb, eqb, ℕ, zero, suc, ◌+◌, ◌-◌, ◌/◌, ◌%◌, ◌^◌}
 use Rattle.std.specs.Int.Bits.{bit_and}
 
 -- "A field without a range takes every value of its width", but for flag fields, of which 02, P2 says otherwise (`only_bits`)
@@ -36,3 +36,14 @@ first_false n (false ∷ ts) = n
 abbrev pub ruled : ℕ → Bool → ℕ
 ruled bad true = bad
 ruled bad false = cond (eqb bad 0) 99 bad
+
+-- a number where 0 means none, as the Option that the code has for it
+abbrev pub found : ℕ → Option ℕ
+found zero = None
+found (suc n) = Some (suc n)
+
+-- `ruled` of such a number (proofs, `ruled_is`)
+abbrev pub ruled_found : Option ℕ → Bool → Option ℕ
+ruled_found (Some bad) kept = Some bad
+ruled_found None true = None
+ruled_found None false = Some 99

@@ -2,23 +2,26 @@
 #![tactic(auto)]
 
 ghost use Rattle.std.specs.Prelude.{◌≡◌};
-ghost use Rattle.ranges.specs.Tests.{within, signed_within, finite, only_bits, first_false, ruled};
+ghost use Rattle.ranges.specs.Tests.{within, signed_within, finite, only_bits, first_false, found, ruled_found};
 
+#[tactic(auto, unfolding(crate::specs::Tests::within))]
 pub fn is_within(lo: u64, hi: u64, n: u64) -> bool
     ensures { result ≡ within lo hi n }
 {
-    lo <= n && n <= hi
+    (lo..=hi).contains(&n)
 }
 
 // A signed 16-bit number from -k to k.
+#[tactic(auto, unfolding(crate::specs::Tests::signed_within))]
 pub fn is_signed_within(k: u16, n: u64) -> bool
     ensures { result ≡ signed_within k n }
 {
-    let top = 65536 - k as u64;
-    n <= k as u64 || top <= n
+    let k = u64::from(k);
+    n <= k || 65536 - k <= n
 }
 
 // A 32-bit float whose exponent bits are not all ones.
+#[tactic(auto, unfolding(crate::specs::Tests::finite))]
 pub fn is_finite(n: u64) -> bool
     ensures { result ≡ finite n }
 {
@@ -26,33 +29,23 @@ pub fn is_finite(n: u64) -> bool
 }
 
 // A number with no bit outside the mask.
+#[tactic(auto, unfolding(crate::specs::Tests::only_bits))]
 pub fn has_only_bits(mask: u64, n: u64) -> bool
     ensures { result ≡ only_bits mask n }
 {
     n & mask == n
 }
 
-// The number, from 1, of the first test that failed, or 0.
-pub fn first_false(tests: &[bool]) -> usize
-    ensures { result ≡ first_false 1 tests.now }
+// The number, from 1, of the first test that failed.
+pub fn first_false(tests: &[bool]) -> Option<usize>
+    ensures { result ≡ found (first_false 1 tests.now) }
 {
-    let mut k = 0;
-    while k < tests.len() {
-        let passed = tests[k];
-        k += 1;
-        if !passed {
-            return k;
-        }
-    }
-    0
+    tests.iter().position(|&passed| !passed).map(|k| k + 1)
 }
 
 // The field that is refused: the first out of its range, and behind all of them 99, where a rule over the fields is broken.
-pub fn ruled(bad: usize, kept: bool) -> usize
-    ensures { result ≡ ruled bad kept }
+pub fn ruled(bad: Option<usize>, kept: bool) -> Option<usize>
+    ensures { result ≡ ruled_found bad kept }
 {
-    if kept {
-        return bad;
-    }
-    if bad == 0 { 99 } else { bad }
+    bad.or(if kept { None } else { Some(99) })
 }

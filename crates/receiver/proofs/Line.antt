@@ -6,8 +6,8 @@ use Prim.Native.Nat.{ℕ, ◌+◌, ◌-◌, ◌≤◌, ◌<◌}
 use native.Mathlib.Nat.{zero-add}
 use native.Mathlib.Omega.{arith}
 use lib.Dec.{T, eqb, ltb}
-use lib.ListN.{length, get_or, take, length-append}
-use lib.Seq.{length-take-le}
+use lib.ListN.{length, get_or, take, replicate, length-append, length-replicate}
+use lib.Seq.{sets, length-take-le}
 use borrow.Author.Tests.{eq-eqb, ne_eqb, eqb-false, ltb-true}
 use Rattle.rule.specs.Run.{late}
 use Rattle.rule.specs.Calls.{Called, accept}
@@ -15,7 +15,7 @@ use Rattle.rule.specs.Rule.{state_at}
 use Rattle.rule.specs.Ready.{lose, ready}
 use Rattle.rule.proofs.Loop.{over, later, accept_number, later_start}
 use Rattle.rule.proofs.Units.{on_line, unit_open}
-use Rattle.sheet.specs.Lengths.{longest_frame}
+use Rattle.sheet.specs.Lengths.{longest_frame, longest_piece}
 use Rattle.names.specs.Names.{need}
 use Rattle.orders.specs.declared.Order.{Order}
 use Rattle.orders.specs.declared.Order.TheVariants.{Nothing}
@@ -26,8 +26,15 @@ use Rattle.unit.specs.declared.Memory.{Memory}
 use Rattle.state.specs.State.{state_of, padded}
 use Rattle.state.specs.Returned.{Returned}
 use Rattle.state.specs.declared.Board.{Board}
-use Rattle.state.specs.declared.Call.{Call}
+use Rattle.state.specs.Call.{Call}
 use Rattle.line.specs.Line.{ran, holding}
+use Rattle.receiver.proofs.Lists.{line_long, line_is as line_at}
+
+-- a line of n bytes in front of a buffer
+pub record LaidOut (buffer line : List ℕ) (n : ℕ) : Type 0 where
+  pub fits : n ≤ longest_frame + longest_piece
+  pub room : n ≤ length buffer
+  pub exact : take n buffer ≡ line
 
 -- "without reply or flag": bytes that are dropped leave the memory
 lose_is : (m : Memory) (u : List ℕ) → lose protocol m u ≡ m
@@ -73,6 +80,20 @@ module _ (b : Board) (t had : ℕ) (begun : b.count < need (take b.count b.held)
 
     pub begins : length u < need u
     begins = rw had_long (had_cases (λ (n : ℕ). n < need (take n b.held)) (need_some []) begun)
+
+    -- they and the piece are laid out
+    pub laid : (piece one two : List ℕ) → one ≡ sets (replicate (longest_frame + longest_piece) 0) 0 b.held → two ≡ sets one had piece
+        → length piece ≤ longest_piece → LaidOut two (u ++ piece) (had + length piece)
+    laid piece one two first second few =
+        let zeros = replicate {A = ℕ} (longest_frame + longest_piece) 0 in
+        let wide = length-replicate {A = ℕ} (longest_frame + longest_piece) 0 in
+        let long = line_long zeros b.held piece one two had first second in
+        let fits : had + length piece ≤ longest_frame + longest_piece = omega (arith, had_short) in
+        record {
+          fits = fits;
+          room = omega (arith, long, wide);
+          exact = line_at zeros b.held piece one two had first second (omega (arith, had_short)) (omega (arith, wide)) (omega (arith, wide));
+        }
 
     -- the call on the piece, by the call on the line
     module _ (line piece before after : List ℕ) (whole : line ≡ u ++ piece) (r : Call) (got : Returned ran (accept protocol (state_at m [] t) t (length before) line) before r after) where
@@ -128,3 +149,18 @@ opens (a ∷ u) piece had n l h is e =
     let some : had ≡ 0 → ⊥ = λ z. omega arith in
     need_more (a ∷ u) piece (λ z. omega (arith, need_zero (a ∷ u) z))
     (omega (arith, is some, length-append (a ∷ u) piece, ltb-true (had + length piece) n (rw (ne_eqb had 0 some) at e)))
+
+-- so a piece behind what the wait leaves begins a unit still, by what `is_open` says, and there is room for it
+module _ (b : Board) (t had : ℕ) (begun : b.count < need (take b.count b.held)) (is : had ≡ cond (late t b.stamp) 0 b.count) (full : length b.held ≡ longest_frame) where
+  abbrev left : List ℕ
+  left = take had b.held
+
+  module _ (piece : List ℕ) (wants : ℕ) (told : wants ≡ need (take b.count b.held))
+      (says : cond (eqb had 0) (cond (eqb (get_or piece 0 0) 0) false (ltb (length piece) 4)) (ltb (had + length piece) wants) ≡ true) where
+    pub still : length (left ++ piece) < need (left ++ piece)
+    still =
+        opens left piece had wants (had_long b t had begun is full) (begins b t had begun is full)
+        (had_cases b t had begun is (λ (n : ℕ). (n ≡ 0 → ⊥) → wants ≡ need (take n b.held)) (λ none. absurd (none refl)) (λ _. told)) says
+
+    pub still_fits : had + length piece ≤ longest_frame
+    still_fits = omega (arith, still, need_most (left ++ piece), length-append left piece, had_long b t had begun is full)

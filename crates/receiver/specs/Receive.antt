@@ -9,7 +9,7 @@ use Rattle.state.specs.State.{state_of, board_of}
 use Rattle.state.specs.Sound.{refusal_of}
 use Rattle.state.specs.Returned.{call_of, Returned}
 use Rattle.state.specs.declared.Board.{Board}
-use Rattle.state.specs.declared.Call.{Call}
+use Rattle.state.specs.Call.{Call}
 use Rattle.line.specs.Line.{ran}
 
 -- the answer of the rule's call c on the board b: a call that took nothing leaves the board as it is, spare bytes too

@@ -5,13 +5,13 @@ ghost use Rattle.std.specs.Prelude.{false, cond, ◌≡◌, ◌++◌, ◌+◌, �
 ghost use Rattle.rule.specs.Run.{late};
 ghost use Rattle.sheet.specs.Lengths.{longest_frame, longest_piece};
 ghost use Rattle.names.specs.Names.{need};
-ghost use Rattle.orders.specs.declared.Order.TheVariants.{Nothing};
 ghost use Rattle.state.specs.State.{padded};
-ghost use Rattle.state.specs.Parts.{board_at, call_at};
+ghost use Rattle.state.specs.Parts.{board_at};
+ghost use Rattle.state.specs.Call.{call_in, call_at, call_lent};
 ghost use Rattle.receiver.specs.Receive.{Runs, Receives};
 
 use orders::Order;
-use state::{Board, Call, Done, Rest};
+use state::{Board, Done, Refusal, Rest};
 use unit::Slate;
 
 // The bytes held and a piece behind them.
@@ -28,7 +28,8 @@ fn hold(held: &mut [u8; sheet::FRAME], had: usize, piece: &[u8])
 }
 
 // The bytes held and the piece behind them are one line, whose first unit the bytes held begin. Where none are held, the piece is the line. Else
-// all of held is copied, spare bytes too, and the piece is laid over those.
+// all of held is copied, spare bytes too, and the piece is laid over those. The arrays and the rest are passed on apart, as C lends them; and that the
+// piece is short stands here, in run and in the bench: a type for it would be made in receive_lent and taken apart in line.
 fn run_line(
     table: &mut [u8; table::SIZE],
     held: &mut [u8; sheet::FRAME],
@@ -37,13 +38,14 @@ fn run_line(
     piece: &[u8],
     stamp: u32,
     reply: &mut [u8],
-) -> Done
-    requires { (length held.old ≡ longest_frame) × (rest.count < need (take rest.count held.old)) × (length piece.now ≤ longest_piece) × (had ≡ cond (late stamp rest.stamp) 0 rest.count) }
+) -> Done<Rest>
+    requires { (rest.count < need (take rest.count held.old)) × (length piece.now ≤ longest_piece) × (had ≡ cond (late stamp rest.stamp) 0 rest.count) }
     ensures { Runs (board_at table.old held.old rest) stamp piece.now reply.old (call_at table.new held.new result) reply.new }
 {
-    let notes = rest.notes;
-    let position = rest.position;
-    let slate = Slate { notes, position };
+    let slate = Slate {
+        notes: rest.notes,
+        position: rest.position,
+    };
     if had == 0 {
         return line::take_units(table, held, slate, piece, stamp, reply);
     }
@@ -52,22 +54,20 @@ fn run_line(
     wire::copy(&mut line, had, piece);
     let end = had + piece.len();
     let mut done = line::take_units(table, held, slate, &line[..end], stamp, reply);
-    done.taken = done.taken - had;
+    done.taken -= had;
     done
 }
 
 // Whether a piece behind the bytes held, which begin a unit of that length, ends no unit.
 fn is_open(had: usize, wants: usize, piece: &[u8]) -> bool
-    requires { (had < longest_frame) × (length piece.now ≤ longest_piece) × (0 < length piece.now) }
+    requires { (had < wants) × (0 < length piece.now) }
     ensures { result ≡ cond (eqb had 0) (cond (eqb (get_or piece.now 0 0) 0) false (ltb (length piece.now) 4)) (ltb (had + length piece.now) wants) }
 {
     if had == 0 {
-        if piece[0] == 0 {
-            return false;
-        }
-        return piece.len() < 4;
+        piece[0] != 0 && piece.len() < 4
+    } else {
+        piece.len() < wants - had
     }
-    had + piece.len() < wants
 }
 
 // A main loop sees bytes one by one, and most of them end no unit: then the piece joins the bytes held where they stand, and nothing else is touched.
@@ -79,38 +79,26 @@ fn run(
     piece: &[u8],
     stamp: u32,
     reply: &mut [u8],
-) -> Done
-    requires { (length held.old ≡ longest_frame) × (rest.count < wants) × (wants ≡ need (take rest.count held.old)) × (length piece.now ≤ longest_piece) × (0 < length piece.now) }
+) -> Done<Rest>
+    requires { (rest.count < wants) × (wants ≡ need (take rest.count held.old)) × (length piece.now ≤ longest_piece) × (0 < length piece.now) }
     ensures { Runs (board_at table.old held.old rest) stamp piece.now reply.old (call_at table.new held.new result) reply.new }
 {
     let had = clock::joined(rest.count, stamp, rest.stamp);
     if is_open(had, wants, piece) {
         hold(held, had, piece);
-        let mut next = rest;
-        next.count = had + piece.len();
-        next.stamp = stamp;
+        let next = Rest {
+            count: had + piece.len(),
+            stamp,
+            ..rest
+        };
         return Done {
-            rest: next,
+            board: next,
             taken: piece.len(),
             written: 0,
-            number: 0,
             order: Order::Nothing,
         };
     }
     run_line(table, held, rest, had, piece, stamp, reply)
-}
-
-// A call that takes nothing.
-fn refuse(number: u8, rest: Rest) -> Done
-    ensures { result ≡ record { rest = rest; taken = 0; written = 0; number = number; order = Nothing } }
-{
-    Done {
-        rest,
-        taken: 0,
-        written: 0,
-        number,
-        order: Order::Nothing,
-    }
 }
 
 // One call: a piece of bytes that share a stamp, and room for the replies. The board's arrays are lent, and changed where they stand.
@@ -121,48 +109,43 @@ pub fn receive_lent(
     piece: &[u8],
     stamp: u32,
     reply: &mut [u8],
-) -> Done
-    ensures { Receives (board_at table.old held.old rest) stamp piece.now reply.old (call_at table.new held.new result) reply.new }
+) -> Result<Done<Rest>, Refusal>
+    ensures { Receives (board_at table.old held.old rest) stamp piece.now reply.old (call_lent table.new held.new rest result) reply.new }
 {
     if sheet::PIECE < piece.len() {
-        return refuse(1, rest);
+        return Err(Refusal::Length);
     }
     if reply.len() < sheet::FRAME {
-        return refuse(2, rest);
+        return Err(Refusal::Room);
     }
-    let verdict = state::judge_parts(table, held, rest);
-    if verdict.number != 0 {
-        return refuse(verdict.number, rest);
+    let wants = state::judge_parts(table, held, rest)?;
+    if piece.is_empty() {
+        return Ok(Done {
+            board: rest,
+            taken: 0,
+            written: 0,
+            order: Order::Nothing,
+        });
     }
-    if piece.len() == 0 {
-        return refuse(0, rest);
-    }
-    run(table, held, rest, verdict.wants, piece, stamp, reply)
+    Ok(run(table, held, rest, wants, piece, stamp, reply))
 }
 
 // The same for a program that keeps its board by value.
-pub fn receive(board: Board, piece: &[u8], stamp: u32, reply: &mut [u8]) -> Call
-    ensures { Receives board stamp piece.now reply.old result reply.new }
+pub fn receive(
+    board: Board,
+    piece: &[u8],
+    stamp: u32,
+    reply: &mut [u8],
+) -> Result<Done<Board>, Refusal>
+    ensures { Receives board stamp piece.now reply.old (call_in board result) reply.new }
 {
-    let memory = board.memory;
-    let settings = memory.settings;
-    let mut table = settings.bytes;
+    let mut table = board.memory.settings.bytes;
     let mut held = board.held;
-    let done = receive_lent(
-        &mut table,
-        &mut held,
-        state::rest_of(board),
-        piece,
-        stamp,
-        reply,
-    );
-    let rest = done.rest;
-    let order = done.order;
-    Call {
-        board: state::joined(table, held, rest),
+    let done = receive_lent(&mut table, &mut held, board.rest(), piece, stamp, reply)?;
+    Ok(Done {
+        board: Board::joined(table, held, done.board),
         taken: done.taken,
         written: done.written,
-        number: done.number,
-        order,
-    }
+        order: done.order,
+    })
 }

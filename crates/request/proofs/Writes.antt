@@ -1,8 +1,9 @@
 -- The length of a set's frame, and the writer's three answers. Assumes nothing.
+use Rattle.std.specs.Prelude.{Result, Ok, Err}
 use mathlib.Core.Path.{◌≡◌, refl, sym, ap, ◌∙◌}
 use mathlib.Core.Bool.{Bool, true, false, cond}
 use mathlib.Core.List.{List}
-use Prim.Native.Nat.{ℕ, ◌≤◌, ◌<◌}
+use Prim.Native.Nat.{ℕ, zero, suc, ◌≤◌, ◌<◌}
 use native.Mathlib.Omega.{arith}
 use lib.Dec.{eqb, ltb}
 use lib.ListN.{length, drop}
@@ -17,8 +18,21 @@ use Rattle.fields.specs.Fields.{block_of, section_of}
 use Rattle.fields.specs.declared.Fields.{Fields}
 use Rattle.fields.proofs.Sections.{section_length}
 use Rattle.request.specs.Request.{set_frame, Wrote, refused_write, written_as, writes, Writes}
-use Rattle.request.specs.declared.Written.{Written}
-use Rattle.request.specs.declared.Written.TheVariants.{Frame, OutOfRange, TooShort}
+use Rattle.request.specs.declared.Refused.{Refused}
+use Rattle.request.specs.declared.Refused.TheVariants.{OutOfRange, TooShort}
+use Rattle.std.specs.Prelude.{Option}
+use Rattle.std.specs.Option.{is_some}
+use Rattle.ranges.specs.Tests.{found}
+
+-- ---- whether a field was found out of its range
+
+pub some_bad : (o : Option ℕ) (n : ℕ) → o ≡ found n → is_some o ≡ true → n ≡ 0 → ⊥
+some_bad o zero e t z = let f = ap is_some e in cc
+some_bad o (suc n) e t z = cc
+
+pub none_bad : (o : Option ℕ) (n : ℕ) → o ≡ found n → is_some o ≡ false → n ≡ 0
+none_bad o zero e t = refl
+none_bad o (suc n) e t = let f = ap is_some e in cc
 
 pub set_length : (f : Fields) → length (set_frame f) ≡ total (row_of (block_of f))
 set_length f = omega (arith, frame_length (set_of (block_of f)).name (section_of f), section_length f, total_least (block_of f))
@@ -26,15 +40,15 @@ set_length f = omega (arith, frame_length (set_of (block_of f)).name (section_of
 -- ---- the three answers
 
 module _ (bad : ℕ) (u before : List ℕ) where
-  pub says_out_of_range : (bad ≡ 0 → ⊥) → Writes bad u before OutOfRange before
+  pub says_out_of_range : (bad ≡ 0 → ⊥) → Writes bad u before (Err OutOfRange) before
   unfolding writes
   says_out_of_range h = record { answer = rw (ne_eqb bad 0 h); buffer = rw (ne_eqb bad 0 h) }
 
-  pub says_too_short : bad ≡ 0 → length before < length u → Writes bad u before TooShort before
+  pub says_too_short : bad ≡ 0 → length before < length u → Writes bad u before (Err TooShort) before
   unfolding writes
   says_too_short z h = record { answer = rw (eq-eqb bad 0 z, lt-ltb (length before) (length u) h); buffer = rw (eq-eqb bad 0 z, lt-ltb (length before) (length u) h) }
 
-  pub says_frame : (n : ℕ) (after : List ℕ) → bad ≡ 0 → length u ≤ length before → n ≡ length u → after ≡ sets before 0 u → Writes bad u before (Frame n) after
+  pub says_frame : (n : ℕ) (after : List ℕ) → bad ≡ 0 → length u ≤ length before → n ≡ length u → after ≡ sets before 0 u → Writes bad u before (Ok n) after
   unfolding writes
   says_frame n after z h e s =
       record {
@@ -63,7 +77,7 @@ module _ (bad : ℕ) (u : List ℕ) where
       by_value false e n = absurd (omega arith)
 
 -- the buffer, over the promise: "nothing written" where it is refused, and else the writer "keeps the buffer past the frame"
-module _ {bad : ℕ} {u before after : List ℕ} {r : Written} (got : Writes bad u before r after) where
+module _ {bad : ℕ} {u before after : List ℕ} {r : Result ℕ Refused} (got : Writes bad u before r after) where
   abbrev number : ℕ
   number = (writes bad u (length before)).number
 
@@ -79,11 +93,11 @@ module _ {bad : ℕ} {u before after : List ℕ} {r : Written} (got : Writes bad
       ap (drop (length u)) (got.buffer ∙ rw (eq-eqb number 0 zero)) ∙ past_stored before u (wrote_frame bad u (length before) zero).fits
 
 -- every request gets an answer
-pub writes_some : (bad : ℕ) (u : List ℕ) (room : ℕ) → (w : Written) × (written_as w ≡ writes bad u room)
+pub writes_some : (bad : ℕ) (u : List ℕ) (room : ℕ) → (w : Result ℕ Refused) × (written_as w ≡ writes bad u room)
 unfolding writes
 writes_some bad u room = by (eqb bad 0) (ltb room (length u))
   where
-    by : (y z : Bool) → (w : Written) × (written_as w ≡ cond y (cond z (refused_write 4) (record { number = 0; size = length u })) (refused_write 3))
-    by true true = (TooShort, refl)
-    by true false = (Frame (length u), refl)
-    by false z = (OutOfRange, refl)
+    by : (y z : Bool) → (w : Result ℕ Refused) × (written_as w ≡ cond y (cond z (refused_write 4) (record { number = 0; size = length u })) (refused_write 3))
+    by true true = (Err TooShort, refl)
+    by true false = (Ok (length u), refl)
+    by false z = (Err OutOfRange, refl)

@@ -1,5 +1,5 @@
 -- What the writer promises. In quotation marks: sheet 02, P1.
-use Rattle.std.specs.Prelude.{cond, List, ◌≡◌, ℕ, eqb, ltb, length}
+use Rattle.std.specs.Prelude.{cond, List, ◌≡◌, ℕ, eqb, ltb, length, Result, Ok, Err}
 use Rattle.std.proofs.lemmas.List.Edits.{sets}
 use Rattle.wire.specs.Numbers.{le_bytes}
 use Rattle.frame.specs.Frame.{framed}
@@ -8,8 +8,8 @@ use Rattle.fields.specs.Fields.{block_of, section_of, first_bad_of}
 use Rattle.fields.specs.declared.Fields.{Fields}
 use Rattle.request.specs.declared.Request.{Request}
 use Rattle.request.specs.declared.Request.TheVariants.{Get, Set, Give}
-use Rattle.request.specs.declared.Written.{Written}
-use Rattle.request.specs.declared.Written.TheVariants.{Frame, OutOfRange, TooShort}
+use Rattle.request.specs.declared.Refused.{Refused}
+use Rattle.request.specs.declared.Refused.TheVariants.{OutOfRange, TooShort}
 
 -- ---- frames
 
@@ -40,10 +40,13 @@ abbrev pub refused_write : ℕ → Wrote
 refused_write n = record { number = n; size = 0 }
 
 -- "Refusals, in these orders: writer, 3 value out of range, 4 buffer shorter than the frame, nothing written"
-abbrev pub written_as : Written → Wrote
-written_as (Frame n) = record { number = 0; size = n }
-written_as OutOfRange = refused_write 3
-written_as TooShort = refused_write 4
+abbrev pub refusal_number : Refused → ℕ
+refusal_number OutOfRange = 3
+refusal_number TooShort = 4
+
+abbrev pub written_as : Result ℕ Refused → Wrote
+written_as (Ok n) = record { number = 0; size = n }
+written_as (Err e) = refused_write (refusal_number e)
 
 -- the answer to a request with this first bad field and this frame, in a buffer of that room
 unfoldable pub writes : ℕ → List ℕ → ℕ → Wrote
@@ -55,6 +58,6 @@ abbrev pub buffer_after : ℕ → List ℕ → List ℕ → List ℕ
 buffer_after bad u before = cond (eqb (writes bad u (length before)).number 0) (sets before 0 u) before
 
 -- THE PROMISE: the answer, and each byte of the buffer
-pub record Writes (bad : ℕ) (u before : List ℕ) (r : Written) (after : List ℕ) : Type 0 where
+pub record Writes (bad : ℕ) (u before : List ℕ) (r : Result ℕ Refused) (after : List ℕ) : Type 0 where
   pub answer : written_as r ≡ writes bad u (length before)
   pub buffer : after ≡ buffer_after bad u before

@@ -8,6 +8,8 @@ use lib.Dec.{T, eqb}
 use lib.ListN.{length, get_or, drop, drop_of_length-le}
 use lib.Seq.{drop-cons}
 use borrow.Author.Tests.{eq-eqb, ne_eqb, eqb-true}
+use lib.Pointwise.{pointwise}
+use Rattle.std.specs.Prelude.{nat_eq}
 use Rattle.sheet.proofs.Sections.{both}
 use Rattle.same.specs.Same.{same_bytes}
 
@@ -52,3 +54,11 @@ bytes_are (x ∷ xs) [] h = absurd (subst T (sym h) tt)
 bytes_are (x ∷ xs) (y ∷ ys) h =
     let p = both (eqb x y) (same_bytes xs ys) h in
     rw (eqb-true x y p.0, bytes_are xs ys p.1)
+
+-- and it is the library's
+pub same_is : (u w : List ℕ) → pointwise nat_eq u w ≡ same_bytes u w
+unfolding same_bytes
+same_is [] [] = refl
+same_is [] (y ∷ ys) = refl
+same_is (x ∷ xs) [] = refl
+same_is (x ∷ xs) (y ∷ ys) = ap (λ (b : Bool). eqb x y && b) (same_is xs ys)

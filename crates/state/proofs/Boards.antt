@@ -2,12 +2,10 @@
 use mathlib.Core.Path.{◌≡◌, refl, sym, ap, ◌∙◌}
 use mathlib.Core.Bool.{Bool, true, false, cond}
 use mathlib.Core.List.{List}
-use Prim.Native.Nat.{ℕ, ◌<◌, ◌≤◌}
+use Prim.Native.Nat.{ℕ, ◌<◌}
 use native.Mathlib.Omega.{arith}
 use lib.ListN.{length, take, length-take}
-use borrow.Author.Tests.{eq-eqb, ne_eqb, le-leb, lt-leb}
-use Rattle.position.specs.Position.{sound_position}
-use Rattle.table.specs.Table.{all_good}
+use borrow.Author.Tests.{eq-eqb, ne_eqb}
 use Rattle.sheet.specs.Lengths.{longest_frame}
 use Rattle.rule.specs.Rule.{State}
 use Rattle.rule.specs.Framing.{begun}
@@ -18,12 +16,11 @@ use Rattle.unit.specs.declared.Memory.{Memory}
 use Rattle.unit.proofs.Sound as sound
 use Rattle.state.specs.State.{state_of, board_of}
 use Rattle.state.specs.Sound.{sound_board, refusal_of, wanted_by, refused, verdict_of, verdict_at}
-use Rattle.state.specs.Parts.{board_at, rest_of, call_at}
+use Rattle.state.specs.Parts.{board_at}
 use Rattle.state.specs.declared.Board.{Board}
 use Rattle.state.specs.declared.Rest.{Rest}
-use Rattle.state.specs.declared.Done.{Done}
 use Rattle.state.proofs.Padded.{padded_take}
-use Rattle.state.proofs.fresh.Reads as fresh
+use Rattle.state.proofs.Board.fresh.Reads as fresh
 
 -- there and back
 pub state_board : (s : State Memory) → state_of (board_of s) ≡ s
@@ -43,6 +40,13 @@ refusal_sound b z = by (sound_board b) z
     by : (y : Bool) → ◌≡◌ {A = ℕ} (cond y 0 3) 0 → y ≡ true
     by true e = refl
     by false e = absurd (omega arith)
+
+pub refusal_three : (b : Board) → (refusal_of b ≡ 0 → ⊥) → refusal_of b ≡ 3
+refusal_three b other = by (sound_board b) other
+  where
+    by : (y : Bool) → (◌≡◌ {A = ℕ} (cond y 0 3) 0 → ⊥) → ◌≡◌ {A = ℕ} (cond y 0 3) 3
+    by true h = absurd (h refl)
+    by false h = refl
 
 -- how long the unit is that a sound board has begun
 pub wants_sound : (b : Board) → sound_board b ≡ true → (verdict_of b).wants ≡ need (take b.count b.held)
@@ -69,26 +73,13 @@ module _ (b : Board) where
         by true e = refl
         by false e = absurd (some (rw e))
 
-    pub judged_flags : 7 < b.memory.notes.flags → verdict_of b ≡ refused
-    unfolding sound_state sound_memory
-    judged_flags h = rw (is_begun, lt-leb _ _ h)
+    pub judged_fields : sound_memory b.memory ≡ false → verdict_of b ≡ refused
+    unfolding sound_state
+    judged_fields e = rw (is_begun, e)
 
-    module _ (flags : b.memory.notes.flags ≤ 7) where
-      pub judged_position : sound_position b.memory.position ≡ false → verdict_of b ≡ refused
-      unfolding sound_state sound_memory
-      judged_position p = rw (is_begun, le-leb _ _ flags, p)
-
-      pub judged_settings : sound_position b.memory.position ≡ true → all_good b.memory.settings ≡ false → verdict_of b ≡ refused
-      unfolding sound_state sound_memory
-      judged_settings p g = rw (is_begun, le-leb _ _ flags, p, g)
-
-      pub judged_sound : sound_position b.memory.position ≡ true → all_good b.memory.settings ≡ true → verdict_of b ≡ record { number = 0; wants = wanted_by u }
-      unfolding sound_state sound_memory
-      judged_sound p g = rw (is_begun, le-leb _ _ flags, p, g)
-
--- one call is of one answer
-pub done_as : {t t' h h' : List ℕ} {d e : Done} → call_at t h d ≡ call_at t' h' e → d ≡ e
-done_as p = λ i. record { rest = rest_of (p i).board; taken = (p i).taken; written = (p i).written; number = (p i).number; order = (p i).order }
+    pub judged_sound : sound_memory b.memory ≡ true → verdict_of b ≡ record { number = 0; wants = wanted_by u }
+    unfolding sound_state
+    judged_sound e = rw (is_begun, e)
 
 -- the verdict of parts
 pub verdict_full : (table held : List ℕ) (rest : Rest) → length held ≡ longest_frame → verdict_at table held rest ≡ verdict_of (board_at table held rest)

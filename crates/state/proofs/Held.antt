@@ -1,7 +1,7 @@
 -- What the first n of the bytes held tell: how long the unit is that they begin, if they begin one. Assumes nothing.
-use mathlib.Core.Path.{◌≡◌, sym, ap, ◌∙◌}
+use mathlib.Core.Path.{◌≡◌, refl, sym, ap, ◌∙◌}
 use mathlib.Core.List.{List}
-use Prim.Native.Nat.{ℕ, ◌≤◌, ◌<◌}
+use Prim.Native.Nat.{ℕ, zero, suc, ◌≤◌, ◌<◌}
 use native.Mathlib.Omega.{arith}
 use lib.ListN.{length, get_or, take, length-take}
 use lib.Seq.{get_or-take, length-take-le}
@@ -11,7 +11,22 @@ use Rattle.sheet.specs.Lengths.{longest_frame}
 use Rattle.rule.specs.Framing.{begun}
 use Rattle.names.specs.Names.{kind_at, kind_of, span as spans, need}
 use Rattle.names.proofs.Need.{kind_named, need_zero, need_name, need_span, need_some, need_most}
-use Rattle.state.specs.Sound.{wanted_by}
+use Rattle.std.specs.Prelude.{Some, None}
+use Rattle.state.specs.Sound.{wanted_by, wanting}
+
+-- a length that is some
+pub wanting_some : (n k : ℕ) → k < n → wanting n ≡ Some n
+wanting_some zero k h = absurd (omega arith)
+wanting_some (suc n) k h = refl
+
+-- what the code found says that it is some, or none
+pub wanting_found : (n k : ℕ) → Some k ≡ wanting n → (k ≡ n) × (n ≡ 0 → ⊥)
+wanting_found zero k e = absurd (cc)
+wanting_found (suc n) k e = (cc, λ z. omega arith)
+
+pub wanting_none : (n : ℕ) → None ≡ wanting n → n ≡ 0
+wanting_none zero e = refl
+wanting_none (suc n) e = absurd (cc)
 
 module _ (held : List ℕ) (n : ℕ) (full : length held ≡ longest_frame) where
   abbrev u : List ℕ

@@ -1,4 +1,6 @@
 pub mod State
+pub mod Refused
 pub mod Parts
 pub mod Sound
+pub mod Call
 pub mod Returned

@@ -2,8 +2,6 @@
 use Rattle.std.specs.Prelude.{List, ℕ}
 use Rattle.state.specs.declared.Board.{Board}
 use Rattle.state.specs.declared.Rest.{Rest}
-use Rattle.state.specs.declared.Call.{Call}
-use Rattle.state.specs.declared.Done.{Done}
 
 abbrev pub board_at : List ℕ → List ℕ → Rest → Board
 board_at table held rest =
@@ -16,7 +14,3 @@ board_at table held rest =
 
 abbrev pub rest_of : Board → Rest
 rest_of b = record { notes = b.memory.notes; position = b.memory.position; count = b.count; stamp = b.stamp }
-
--- what a call answered, with the arrays as it left them
-abbrev pub call_at : List ℕ → List ℕ → Done → Call
-call_at table held d = record { board = board_at table held d.rest; taken = d.taken; written = d.written; number = d.number; order = d.order }

@@ -5,7 +5,7 @@ use Rattle.orders.specs.declared.Order.{Order}
 use Rattle.unit.specs.Unit.{order_of}
 use Rattle.unit.specs.declared.Memory.{Memory}
 use Rattle.state.specs.declared.Board.{Board}
-use Rattle.state.specs.declared.Call.{Call}
+use Rattle.state.specs.Call.{Call}
 
 -- "It answers a number, the bytes taken, the reply bytes written, the order and the next state": those of the rule's call c, and the board b
 abbrev pub call_of : Called Order Memory → Board → Call

@@ -1,5 +1,5 @@
 -- When a board is sound. In quotation marks: sheet 01, "One call".
-use Rattle.std.specs.Prelude.{Bool, cond, List, ℕ, eqb, length, take}
+use Rattle.std.specs.Prelude.{Bool, cond, List, ℕ, zero, suc, eqb, length, take, Option, Some, None, Result, Ok, Err}
 use Rattle.sheet.specs.Lengths.{longest_frame}
 use Rattle.rule.specs.Framing.{begun}
 use Rattle.names.specs.Names.{need}
@@ -8,7 +8,8 @@ use Rattle.state.specs.State.{state_of}
 use Rattle.state.specs.Parts.{board_at}
 use Rattle.state.specs.declared.Board.{Board}
 use Rattle.state.specs.declared.Rest.{Rest}
-use Rattle.state.specs.declared.Verdict.{Verdict}
+use Rattle.state.specs.declared.Refusal.{Refusal}
+use Rattle.state.specs.Refused.{number_of}
 
 -- "A state is sound when its unfinished bytes are none or a true beginning of one unit .., every field lies in its range, the floats are finite, and
 -- the flags are at most 7."; "In a sound state the position's microsteps lie in -255..255." (02, P5) Spare bytes are no cause
@@ -23,7 +24,20 @@ refusal_of b = cond (sound_board b) 0 3
 abbrev pub wanted_by : List ℕ → ℕ
 wanted_by u = cond (begun need u) (need u) 0
 
--- the verdict as the code gives it
+-- the same as the code gives it
+abbrev pub wanting : ℕ → Option ℕ
+wanting zero = None
+wanting (suc n) = Some (suc n)
+
+-- the verdict with that length, and what the code's answer says of it
+pub record Verdict : Type 0 where
+  pub number : ℕ
+  pub wants : ℕ
+
+abbrev pub verdict_in : Result ℕ Refusal → Verdict
+verdict_in (Ok n) = record { number = 0; wants = n }
+verdict_in (Err e) = record { number = number_of e; wants = 0 }
+
 abbrev pub refused : Verdict
 refused = record { number = 3; wants = 0 }
 

@@ -4,17 +4,21 @@
 ghost use Rattle.std.specs.Prelude.{[], ◌≡◌, length, take};
 ghost use Rattle.rule.specs.Rule.{state_at};
 ghost use Rattle.sheet.specs.Lengths.{longest_frame};
-ghost use Rattle.unit.specs.Protocol.{fresh_state};
+ghost use Rattle.unit.specs.Protocol.{sound_memory, fresh_state};
 ghost use Rattle.state.specs.State.{board_of};
 ghost use Rattle.state.specs.Parts.{board_at, rest_of};
-ghost use Rattle.state.specs.Sound.{wanted_by, verdict_of, verdict_at};
+ghost use Rattle.state.specs.Refused.{number_of};
+ghost use Rattle.state.specs.Sound.{wanted_by, wanting, verdict_of, verdict_at, verdict_in};
 
+use names::Kind;
 use orders::Order;
 use position::Position;
+use sheet::Section;
 use table::Table;
 use unit::{Memory, Notes};
+use wire::Number;
 
-// The bytes of the unfinished unit stand in front of held, and count tells how many.
+// The bytes of the unfinished unit stand in front of held, and count tells how many: in fixed memory, as C has it.
 #[repr(C)]
 #[derive(Clone, Copy)]
 pub struct Board {
@@ -34,26 +38,16 @@ pub struct Rest {
     pub stamp: u32,
 }
 
-// What a call answers; and what it answers where the arrays are lent.
+// What a call that is not refused answers: of a board, or of its rest where the arrays are lent.
 #[derive(Clone, Copy)]
-pub struct Call {
-    pub board: Board,
+pub struct Done<B> {
+    pub board: B,
     pub taken: usize,
     pub written: usize,
-    pub number: u8,
     pub order: Order,
 }
 
-#[derive(Clone, Copy)]
-pub struct Done {
-    pub rest: Rest,
-    pub taken: usize,
-    pub written: usize,
-    pub number: u8,
-    pub order: Order,
-}
-
-// What a report answers.
+// What a report answers to C: a refused one the board as it was.
 #[repr(C)]
 #[derive(Clone, Copy)]
 pub struct Report {
@@ -61,131 +55,131 @@ pub struct Report {
     pub board: Board,
 }
 
-// What every public entry answers to a board, 0, or 3 where its state is not sound; and how long the unit is that a sound board has begun, as far
-// as its bytes tell, so that nobody looks it up again.
-#[derive(Clone, Copy)]
-pub struct Verdict {
-    pub number: u8,
-    pub wants: usize,
+// Why a board, or what is told or lent to it, is refused: a length that is not taken, too little room, a state that is not sound, a field out of range.
+#[derive(Clone, Copy, PartialEq, Eq, Debug)]
+pub enum Refusal {
+    Length,
+    Room,
+    Unsound,
+    Range,
 }
 
-// How long the unit is that n bytes in held begin; 0 where they are neither none nor a true beginning of one unit.
-fn wanted(held: &[u8], n: usize) -> usize
-    requires { length held.now ≡ longest_frame }
-    ensures { result ≡ wanted_by (take n held.now) }
-{
-    if n == 0 {
-        return 1;
-    }
-    if sheet::FRAME < n {
-        return 0;
-    }
-    if held[0] == 0 {
-        return 0;
-    }
-    if n < 4 {
-        return 4;
-    }
-    let kind = names::kind_of(held[0], wire::u32_at(held, 0));
-    let span = names::span_of(kind);
-    if span <= n {
-        return 0;
-    }
-    span
-}
+impl From<Refusal> for u8 {
+    ghost from_gives = { λ refusal number. number ≡ number_of refusal };
 
-// A board in parts, and put together.
-pub fn rest_of(board: Board) -> Rest
-    ensures { result ≡ rest_of board }
-{
-    let memory = board.memory;
-    let notes = memory.notes;
-    let position = memory.position;
-    Rest {
-        notes,
-        position,
-        count: board.count,
-        stamp: board.stamp,
-    }
-}
-
-pub fn joined(table: [u8; table::SIZE], held: [u8; sheet::FRAME], rest: Rest) -> Board
-    ensures { result ≡ board_at table held rest }
-{
-    let notes = rest.notes;
-    let position = rest.position;
-    let settings = Table { bytes: table };
-    let memory = Memory {
-        settings,
-        notes,
-        position,
-    };
-    Board {
-        memory,
-        held,
-        count: rest.count,
-        stamp: rest.stamp,
-    }
-}
-
-// 01's list of what a sound state is, of a board in parts.
-pub fn judge_parts(table: &[u8; table::SIZE], held: &[u8], rest: Rest) -> Verdict
-    ensures { result ≡ verdict_at table.now held.now rest }
-{
-    if held.len() == sheet::FRAME {
-        let wants = wanted(held, rest.count);
-        if wants != 0 {
-            if rest.notes.flags <= 7 {
-                let position = rest.position;
-                if position.first_bad() == 0 {
-                    if table::is_sound(table) {
-                        return Verdict { number: 0, wants };
-                    }
-                }
-            }
+    fn from(refusal: Refusal) -> u8 {
+        match refusal {
+            Refusal::Length => 1,
+            Refusal::Room => 2,
+            Refusal::Unsound => 3,
+            Refusal::Range => 5,
         }
     }
-    Verdict {
-        number: 3,
-        wants: 0,
+}
+
+// How long the unit is that n bytes in held begin; none where they are neither none nor a true beginning of one unit.
+fn wanted(held: &[u8], n: usize) -> Option<usize>
+    requires { length held.now ≡ longest_frame }
+    ensures { result ≡ wanting (wanted_by (take n held.now)) }
+{
+    if n == 0 {
+        return Some(1);
     }
-}
-
-pub fn judge(board: Board) -> Verdict
-    ensures { result ≡ verdict_of board }
-{
-    let memory = board.memory;
-    let settings = memory.settings;
-    let table = settings.bytes;
-    let held = board.held;
-    judge_parts(&table, &held, rest_of(board))
-}
-
-// A board with nothing unfinished.
-pub fn idle(memory: Memory, stamp: u32) -> Board
-    ensures { result ≡ board_of (state_at memory [] stamp) }
-{
-    Board {
-        memory,
-        held: [0u8; sheet::FRAME],
-        count: 0,
-        stamp,
+    if sheet::FRAME < n || held[0] == 0 {
+        return None;
     }
+    if n < 4 {
+        return Some(4);
+    }
+    let kind = Kind::of(held[0], u32::read(held, 0));
+    let span = kind.span();
+    if span <= n { None } else { Some(span) }
 }
 
-// A board that has taken nothing yet.
-pub fn fresh() -> Board
-    ensures { result ≡ board_of fresh_state }
+// 01's list of what a sound state's fields are.
+#[tactic(auto, unfolding(unit::specs::Protocol::sound_memory))]
+fn is_sound(table: &[u8; table::SIZE], rest: Rest) -> bool
+    ensures { result ≡ sound_memory (board_at table.now [] rest).memory }
 {
-    let notes = Notes {
-        flags: 0,
-        block: 0,
-        field: 0,
-    };
-    let memory = Memory {
-        settings: Table::fresh(),
-        notes,
-        position: Position::fresh(),
-    };
-    idle(memory, 0)
+    let position = rest.position;
+    rest.notes.flags <= 7 && position.first_bad().is_none() && table::is_sound(table)
+}
+
+// Of a board in parts, how long the unit is that a sound one has begun, as far as its bytes tell, so that nobody looks it up again.
+pub fn judge_parts(table: &[u8; table::SIZE], held: &[u8], rest: Rest) -> Result<usize, Refusal>
+    ensures { verdict_in result ≡ verdict_at table.now held.now rest }
+{
+    if held.len() == sheet::FRAME
+        && let Some(wants) = wanted(held, rest.count)
+        && is_sound(table, rest)
+    {
+        return Ok(wants);
+    }
+    Err(Refusal::Unsound)
+}
+
+impl Board {
+    // A board with nothing unfinished.
+    pub fn idle(memory: Memory, stamp: u32) -> Board
+        ensures { result ≡ board_of (state_at memory [] stamp) }
+    {
+        Board {
+            memory,
+            held: [0u8; sheet::FRAME],
+            count: 0,
+            stamp,
+        }
+    }
+
+    // A board that has taken nothing yet.
+    pub fn fresh() -> Board
+        ensures { result ≡ board_of fresh_state }
+    {
+        let notes = Notes {
+            flags: 0,
+            block: 0,
+            field: 0,
+        };
+        let memory = Memory {
+            settings: Table::fresh(),
+            notes,
+            position: Position::fresh(),
+        };
+        Board::idle(memory, 0)
+    }
+
+    // A board put together of its parts, and its parts but for the arrays.
+    pub fn joined(table: [u8; table::SIZE], held: [u8; sheet::FRAME], rest: Rest) -> Board
+        ensures { result ≡ board_at table held rest }
+    {
+        let memory = Memory {
+            settings: Table { bytes: table },
+            notes: rest.notes,
+            position: rest.position,
+        };
+        Board {
+            memory,
+            held,
+            count: rest.count,
+            stamp: rest.stamp,
+        }
+    }
+
+    pub fn rest(&self) -> Rest
+        ensures { result ≡ rest_of self.now }
+    {
+        Rest {
+            notes: self.memory.notes,
+            position: self.memory.position,
+            count: self.count,
+            stamp: self.stamp,
+        }
+    }
+
+    // What every public entry answers to a board that is not sound.
+    pub fn judge(&self) -> Result<usize, Refusal>
+        ensures { verdict_in result ≡ verdict_of self.now }
+    {
+        judge_parts(&self.memory.settings.bytes, &self.held, self.rest())
+    }
 }

@@ -8,33 +8,32 @@ ghost use Rattle.streams.specs.Streams.{Says, IsPrefixLen, Fills};
 use std::io;
 use std::io::{ErrorKind, Read, Write};
 
-// Writes all of the text, or stops at the first write that fails or takes nothing.
+// Writes all of the text, or stops at the first write that fails or takes nothing. Not `write_all`: std does not say what its error leaves.
 pub fn say<W: Write>(out: &mut W, text: &[u8]) -> io::Result<()>
     ensures { Says (W.contents out.old) (W.contents out.new) result text.now }
 {
-    let mut done = 0;
-    while done < text.len() {
-        let n = out.write(&text[done..])?;
-        if n == 0 {
-            return Err(io::Error::from(ErrorKind::WriteZero));
+    let mut rest = text;
+    while !rest.is_empty() {
+        match out.write(rest)? {
+            0 => return Err(io::Error::from(ErrorKind::WriteZero)),
+            n => rest = &rest[n..],
         }
-        done += n;
     }
     Ok(())
 }
 
 // Reads until the buffer is full or the input ends, or stops at the first read that fails. The answer is how many bytes stand at its front.
+// Not `read_exact`: std does not say what its error leaves, and an input that ends is one. It counts in `done`, since the count is the answer.
 pub fn read_full<R: Read>(input: &mut R, buffer: &mut [u8]) -> io::Result<usize>
     ensures count { IfOk result (λ n. IsPrefixLen n buffer.new) }
     ensures bytes { Fills (R.remaining input.old) (R.remaining input.new) result buffer.new }
 {
     let mut done = 0;
     while done < buffer.len() {
-        let n = input.read(&mut buffer[done..])?;
-        if n == 0 {
-            break;
+        match input.read(&mut buffer[done..])? {
+            0 => break,
+            n => done += n,
         }
-        done += n;
     }
     Ok(done)
 }

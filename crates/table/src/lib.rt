@@ -1,11 +1,12 @@
-// The settings as one run of bytes (02, P10): the data sections of the blocks in number order, each as its get sends it. A number of no block has an
-// empty section behind the last.
+// The settings as one run of bytes (02, P10): the data sections of the blocks in number order, each as its get sends it. A block is asked for by its
+// number and not by an enum, since every number is answered: one of no block has an empty section behind the last.
 #![tactic(auto)]
 
-ghost use Rattle.std.specs.Prelude.{◌≡◌, min, take, drop};
+ghost use Rattle.std.specs.Prelude.{◌≡◌, take, drop};
 ghost use Rattle.std.proofs.lemmas.List.Edits.{sets};
+ghost use Rattle.ranges.specs.Tests.{found};
 ghost use Rattle.sheet.specs.Sheet.{sheet};
-ghost use Rattle.sheet.specs.Rows.{row_at};
+ghost use Rattle.sheet.specs.Rows.{row_at, numbers_in, first_bad};
 ghost use Rattle.sheet.specs.Sections.{bad_in};
 ghost use Rattle.table.specs.Places.{spot_in, section_in, put_in};
 ghost use Rattle.table.specs.Table.{all_good, fresh_table};
@@ -19,12 +20,13 @@ use joy::Joy;
 use mov::Mov;
 use pid::Pid;
 use pwr::Pwr;
+use sheet::{Block, Section};
 
 // How long it is.
 pub const SIZE: usize = 277;
 
 #[repr(C)]
-#[derive(Clone, Copy)]
+#[derive(Clone, Copy, PartialEq, Eq)]
 pub struct Table {
     pub bytes: [u8; SIZE],
 }
@@ -50,91 +52,51 @@ fn standing(place: usize, fields: usize, reserved: usize) -> Spot
 fn spot_of(number: usize) -> Spot
     ensures { result ≡ spot_in sheet number }
 {
-    if number == 1 {
-        return standing(0, 14, 10);
+    match number {
+        1 => standing(0, 14, 10),
+        2 => standing(24, 16, 12),
+        3 => standing(52, 8, 6),
+        4 => standing(66, 14, 6),
+        5 => standing(86, 18, 9),
+        6 => standing(113, 9, 10),
+        7 => standing(132, 18, 24),
+        11 => standing(174, 78, 9),
+        12 => standing(261, 9, 7),
+        _ => standing(277, 0, 0),
     }
-    if number == 2 {
-        return standing(24, 16, 12);
-    }
-    if number == 3 {
-        return standing(52, 8, 6);
-    }
-    if number == 4 {
-        return standing(66, 14, 6);
-    }
-    if number == 5 {
-        return standing(86, 18, 9);
-    }
-    if number == 6 {
-        return standing(113, 9, 10);
-    }
-    if number == 7 {
-        return standing(132, 18, 24);
-    }
-    if number == 11 {
-        return standing(174, 78, 9);
-    }
-    if number == 12 {
-        return standing(261, 9, 7);
-    }
-    standing(277, 0, 0)
 }
 
-// The number of the first field out of its range in a data section for the block of this number, or 0.
-pub fn bad_in(number: usize, section: &[u8]) -> usize
-    ensures { result ≡ bad_in (row_at number) section.now }
+// The same of a data section that carries an S.
+fn bad_of<S: Section>(section: &[u8]) -> Option<usize>
+    ensures { result ≡ found (first_bad S.sheet_row (S.to (S.of (numbers_in S.sheet_row section.now)))) }
 {
-    if number == 1 {
-        let x = Mov::decode(section);
-        return x.first_bad();
+    S::decode(section).first_bad()
+}
+
+// The number of the first field out of its range in a data section for the block of this number, or, behind all of them, 99 for a broken rule.
+pub fn bad_in(number: usize, section: &[u8]) -> Option<usize>
+    ensures { result ≡ found (bad_in (row_at number) section.now) }
+{
+    match number {
+        1 => bad_of::<Mov>(section),
+        2 => bad_of::<Eng>(section),
+        3 => bad_of::<Pwr>(section),
+        4 => bad_of::<Eds>(section),
+        5 => bad_of::<Hom>(section),
+        6 => bad_of::<Brk>(section),
+        7 => bad_of::<Pid>(section),
+        11 => bad_of::<Ctl>(section),
+        12 => bad_of::<Joy>(section),
+        _ => None,
     }
-    if number == 2 {
-        let x = Eng::decode(section);
-        return x.first_bad();
-    }
-    if number == 3 {
-        let x = Pwr::decode(section);
-        return x.first_bad();
-    }
-    if number == 4 {
-        let x = Eds::decode(section);
-        return x.first_bad();
-    }
-    if number == 5 {
-        let x = Hom::decode(section);
-        return x.first_bad();
-    }
-    if number == 6 {
-        let x = Brk::decode(section);
-        return x.first_bad();
-    }
-    if number == 7 {
-        let x = Pid::decode(section);
-        return x.first_bad();
-    }
-    if number == 11 {
-        let x = Ctl::decode(section);
-        return x.first_bad();
-    }
-    if number == 12 {
-        let x = Joy::decode(section);
-        return x.first_bad();
-    }
-    0
 }
 
 // The n bytes from a place on, as far as they are there.
 pub fn part(bytes: &[u8], at: usize, n: usize) -> &[u8]
     ensures { result.now ≡ take n (drop at bytes.now) }
 {
-    if bytes.len() <= at {
-        return &bytes[..0];
-    }
-    if bytes.len() - at <= n {
-        return &bytes[at..];
-    }
-    let end = at + n;
-    &bytes[at..end]
+    let rest = &bytes[at.min(bytes.len())..];
+    &rest[..n.min(rest.len())]
 }
 
 // Whether these bytes are a sound table: of its length, every field in its range, every reserved byte zero.
@@ -151,12 +113,6 @@ pub fn is_sound(bytes: &[u8]) -> bool
                                 & (Pid::is_sound(part(bytes, 132, 42))
                                     & (Ctl::is_sound(part(bytes, 174, 87))
                                         & Joy::is_sound(part(bytes, 261, 16))))))))))
-}
-
-fn least(a: usize, b: usize) -> usize
-    ensures { result ≡ min a b }
-{
-    if a < b { a } else { b }
 }
 
 impl Table {
@@ -182,11 +138,9 @@ pub fn put(table: &mut [u8; SIZE], number: usize, section: &[u8])
     ensures { table.new ≡ put_in sheet table.old number section.now }
 {
     let spot = spot_of(number);
-    let place = spot.place;
-    let fields = spot.fields;
-    let n = least(fields, section.len());
-    wire::copy(table, place, &section[..n]);
-    wire::put(table, place + n, fields - n + spot.reserved, 0);
+    let n = spot.fields.min(section.len());
+    wire::copy(table, spot.place, &section[..n]);
+    wire::put(table, spot.place + n, spot.fields - n + spot.reserved, 0);
 }
 
 // The data section of the block of this number, at the front of out.

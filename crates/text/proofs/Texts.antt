@@ -6,15 +6,16 @@ use Prim.Native.Nat.{ℕ, zero, suc, ◌+◌, ◌-◌, ◌*◌, ◌/◌, ◌%◌
 use native.Mathlib.Nat.{min-eq_left, min-eq_right, pow-succ'}
 use native.Mathlib.Numerals.{add-one}
 use native.Mathlib.Omega.{arith}
+use borrow.Author.Rules.{rules}
 use borrow.Author.Tests.{leb-true, leb-false, ltb-true, ltb-false, lt-ltb, le-ltb}
 use lib.Dec.{eqb, leb, ltb}
-use lib.IntN.{ℤ, pos, negsuc}
+use lib.IntN.{ℤ, pos, negsuc, nat_abs}
+use Rattle.std.specs.Prelude.{◌<ℤ◌, ◌≤ℤ◌}
 use lib.ListN.{length, get_or, take, length-append}
 use lib.Seq.{sets, sets-eq, length-sets, take-suc, take_at, length-take-le}
 use mir.Syntax.{w64}
-use mir.Val.{SFits, to_z, of_z}
+use mir.Val.{to_z}
 use Rattle.wire.proofs.Stores.{sets_append, sets_past}
-use Rattle.values.proofs.Values.{back}
 use Rattle.wire.specs.Letters.{ascii}
 use Rattle.text.specs.Texts.{glyph, digits, decimal, signed, hex, shown, Written}
 
@@ -42,6 +43,10 @@ then {before} {mid} {after} {a} {b} {at} {r} {r'} p q =
 -- nothing is written within the buffer
 pub nothing : (s : List ℕ) (at : ℕ) → at ≤ length s → Written s at [] at s
 nothing s at h = record { bytes = refl; behind = omega arith }
+
+-- nor anywhere else
+pub begun : (s : List ℕ) (at p : ℕ) → p ≡ min at (length s) → Written s at [] p s
+begun s at p e = record { bytes = refl; behind = omega (arith, e) }
 
 -- ---- decimal
 
@@ -122,25 +127,17 @@ pub decimal_most : (n : ℕ) → length (decimal n) ≤ 20
 unfolding decimal
 decimal_most n = digits_most 20 n
 
--- ---- signed, by the 64 bits that stand for a number
+-- ---- signed, by the magnitude
 
-bits_low : (n : ℕ) → n < 2 ^ 63 → signed (to_z w64 n) ≡ decimal n
+pub signed_negative : (z : ℤ) → z <ℤ pos 0 → signed z ≡ ascii "-" ++ decimal (nat_abs z)
 unfolding signed
-bits_low n h = rw (lt-ltb n (2 ^ 63) h)
+signed_negative (pos n) h = absurd (search rules)
+signed_negative (negsuc n) h = refl
 
-bits_high : (n : ℕ) → 2 ^ 63 ≤ n → signed (to_z w64 n) ≡ ascii "-" ++ decimal (18446744073709551615 - n + 1)
+pub signed_other : (z : ℤ) → pos 0 ≤ℤ z → signed z ≡ decimal (nat_abs z)
 unfolding signed
-bits_high n h = rw (le-ltb n (2 ^ 63) h) (ap (λ (k : ℕ). ascii "-" ++ decimal k) (omega arith))
-
-module _ (z : ℤ) (fits : SFits w64 z) (n : ℕ) (bits : n ≡ of_z w64 (to_z w64 (of_z w64 z))) where
-  of_bits_lem : signed z ≡ signed (to_z w64 n)
-  of_bits_lem = let e = back w64 z fits.sfits in sym (ap signed (ap (to_z w64) (bits ∙ ap (of_z w64) e) ∙ e))
-
-  pub signed_low : n < 2 ^ 63 → signed z ≡ decimal n
-  signed_low h = of_bits_lem ∙ bits_low n h
-
-  pub signed_high : 2 ^ 63 ≤ n → signed z ≡ ascii "-" ++ decimal (18446744073709551615 - n + 1)
-  signed_high h = of_bits_lem ∙ bits_high n h
+signed_other (pos n) h = refl
+signed_other (negsuc n) h = absurd (search rules)
 
 -- the least number of 64 bits
 pub signed_least : signed (to_z w64 9223372036854775808) ≡ ascii "-9223372036854775808"

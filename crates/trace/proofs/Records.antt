@@ -8,12 +8,13 @@ use borrow.Author.Tests.{ltb-true, ltb-false, lt-ltb, le-ltb, eqb-true, eqb-fals
 use lib.Dec.{eqb, ltb}
 use lib.ListN.{length, get_or, drop, replicate, length-append, length-drop, length-replicate, get_or-append, get_or-eq_default}
 use lib.Seq.{get_or-append-add, get_or-drop}
+use Rattle.std.specs.Prelude.{Result, Ok, Err}
 use Rattle.wire.specs.Numbers.{le_at, le_bytes}
 use Rattle.wire.proofs.Numbers.{le_at_same}
 use Rattle.trace.specs.Record.{longest_record, wrong_at, head_of, reading, record_of}
 use Rattle.trace.specs.declared.Head.{Head}
-use Rattle.trace.specs.declared.Reading.{Reading}
-use Rattle.trace.specs.declared.Reading.TheVariants.{Record, More, Bad}
+use Rattle.trace.specs.declared.NoRecord.{NoRecord}
+use Rattle.trace.specs.declared.NoRecord.TheVariants.{More, Bad}
 
 -- ---- the tests
 
@@ -31,9 +32,9 @@ unfolding wrong_at
 wrong k b s e = split (ltb k (length s)) (eqb (get_or s k 0) b) refl refl e
   where
     split : (t u : Bool) → ltb k (length s) ≡ t → eqb (get_or s k 0) b ≡ u → (t && not u) ≡ true → Wrong k b s
-    split true true p q h = let z : ◌≡◌ {A = ℕ} 0 1 = cc in absurd (omega arith)
+    split true true p q h = absurd (cc)
     split true false p q h = record { there = ltb-true k (length s) p; other = eqb-false (get_or s k 0) b q }
-    split false u p q h = let z : ◌≡◌ {A = ℕ} 0 1 = cc in absurd (omega arith)
+    split false u p q h = absurd (cc)
 
 right : (k b : ℕ) (s : List ℕ) → wrong_at k b s ≡ false → Right k b s
 unfolding wrong_at
@@ -64,19 +65,19 @@ pub record Begun (s : List ℕ) : Type 0 where
   pub few : (head_of s).count ≤ longest_record
 
 -- the verdict and what it says of the bytes s: a wrong mark or a count over 250; a record cut; a whole record
-pub data Seen (s : List ℕ) : Reading → Type 0 where
-  first : Wrong 0 0x4c s → Seen s Bad
-  second : Wrong 1 0x4b s → Seen s Bad
-  many : longest_record < (head_of s).count → Seen s Bad
-  cut : Begun s → length s < 7 + (head_of s).count → Seen s More
-  whole : Begun s → 7 + (head_of s).count ≤ length s → Seen s (Record (head_of s))
+pub data Seen (s : List ℕ) : Result Head NoRecord → Type 0 where
+  first : Wrong 0 0x4c s → Seen s (Err Bad)
+  second : Wrong 1 0x4b s → Seen s (Err Bad)
+  many : longest_record < (head_of s).count → Seen s (Err Bad)
+  cut : Begun s → length s < 7 + (head_of s).count → Seen s (Err More)
+  whole : Begun s → 7 + (head_of s).count ≤ length s → Seen s (Ok (head_of s))
 
 pub saw : (s : List ℕ) → Seen s (reading s)
 unfolding reading
 saw s = split (wrong_at 0 0x4c s) (wrong_at 1 0x4b s) (ltb longest_record (head_of s).count) (ltb (length s) (7 + (head_of s).count)) refl refl refl refl
   where
     split : (t u v w : Bool) → wrong_at 0 0x4c s ≡ t → wrong_at 1 0x4b s ≡ u → ltb longest_record (head_of s).count ≡ v → ltb (length s) (7 + (head_of s).count) ≡ w
-        → Seen s (cond t Bad (cond u Bad (cond v Bad (cond w More (Record (head_of s))))))
+        → Seen s (cond t (Err Bad) (cond u (Err Bad) (cond v (Err Bad) (cond w (Err More) (Ok (head_of s))))))
     split true u v w a b c d = first (wrong 0 0x4c s a)
     split false true v w a b c d = second (wrong 1 0x4b s b)
     split false false true w a b c d = many (ltb-true longest_record (head_of s).count c)
@@ -85,25 +86,25 @@ saw s = split (wrong_at 0 0x4c s) (wrong_at 1 0x4b s) (ltb longest_record (head_
     split false false false false a b c d =
         whole (record { first = right 0 0x4c s a; second = right 1 0x4b s b; few = ltb-false longest_record (head_of s).count c }) (ltb-false (length s) (7 + (head_of s).count) d)
 
-second_bad : (s : List ℕ) → wrong_at 1 0x4b s ≡ true → reading s ≡ Bad
+second_bad : (s : List ℕ) → wrong_at 1 0x4b s ≡ true → reading s ≡ Err Bad
 unfolding reading
 second_bad s e = split (wrong_at 0 0x4c s) refl
   where
-    split : (t : Bool) → wrong_at 0 0x4c s ≡ t → cond t Bad (cond (wrong_at 1 0x4b s) Bad (cond (ltb longest_record (head_of s).count) Bad (cond (ltb (length s) (7 + (head_of s).count)) More (Record (head_of s))))) ≡ Bad
+    split : (t : Bool) → wrong_at 0 0x4c s ≡ t → cond t (Err Bad) (cond (wrong_at 1 0x4b s) (Err Bad) (cond (ltb longest_record (head_of s).count) (Err Bad) (cond (ltb (length s) (7 + (head_of s).count)) (Err More) (Ok (head_of s))))) ≡ Err Bad
     split true a = refl
     split false a = rw e
 
-many_bad : (s : List ℕ) → longest_record < (head_of s).count → reading s ≡ Bad
+many_bad : (s : List ℕ) → longest_record < (head_of s).count → reading s ≡ Err Bad
 unfolding reading
 many_bad s h = split (wrong_at 0 0x4c s) (wrong_at 1 0x4b s)
   where
-    split : (t u : Bool) → cond t Bad (cond u Bad (cond (ltb longest_record (head_of s).count) Bad (cond (ltb (length s) (7 + (head_of s).count)) More (Record (head_of s))))) ≡ Bad
+    split : (t u : Bool) → cond t (Err Bad) (cond u (Err Bad) (cond (ltb longest_record (head_of s).count) (Err Bad) (cond (ltb (length s) (7 + (head_of s).count)) (Err More) (Ok (head_of s))))) ≡ Err Bad
     split true u = refl
     split false true = refl
     split false false = rw (lt-ltb longest_record (head_of s).count h)
 
 -- and no other bytes have that verdict
-pub seen_is : {s : List ℕ} {r : Reading} → Seen s r → reading s ≡ r
+pub seen_is : {s : List ℕ} {r : Result Head NoRecord} → Seen s r → reading s ≡ r
 unfolding reading
 seen_is {s} (first w) = rw (is_wrong 0 0x4c s w)
 seen_is {s} (second w) = second_bad s (is_wrong 1 0x4b s w)
@@ -150,7 +151,7 @@ module _ (p q : List ℕ) where
         few = rw (same_count h) b.few;
       }
 
-  still : {r : Reading} → Seen p r → (r ≡ More → ⊥) → reading (p ++ q) ≡ r
+  still : {r : Result Head NoRecord} → Seen p r → (r ≡ Err More → ⊥) → reading (p ++ q) ≡ r
   still (first w) n = seen_is (first (still_wrong 0 0x4c w))
   still (second w) n = seen_is (second (still_wrong 1 0x4b w))
   still (many h) n = seen_is (many (rw (same_count (counted p (omega arith))) h))
@@ -158,23 +159,23 @@ module _ (p q : List ℕ) where
   still (whole b h) n =
       let l : 7 ≤ length p = omega arith in
       let f : 7 + le_at 1 6 (p ++ q) ≤ length (p ++ q) = omega (arith, same_count l, length-append p q) in
-      seen_is (whole (still_begun l b) f) ∙ ap Record (λ i. record { stamp = same_stamp l i; count = same_count l i })
+      seen_is (whole (still_begun l b) f) ∙ ap Ok (λ i. record { stamp = same_stamp l i; count = same_count l i })
 
-  -- "Record" and "Bad" are settled
-  pub settled : (reading p ≡ More → ⊥) → reading (p ++ q) ≡ reading p
+  -- a whole record and "Bad" are settled
+  pub settled : (reading p ≡ Err More → ⊥) → reading (p ++ q) ≡ reading p
   settled n = still (saw p) n
 
 -- ---- what a record is
 
 -- a record's 7 bytes and those it counts stand in the part
-pub record_fits : (s : List ℕ) (h : Head) → reading s ≡ Record h → (7 + h.count ≤ length s) × (h.count ≤ longest_record)
-record_fits s h e = of (subst (λ (r : Reading). Seen s r) e (saw s)) refl
+pub record_fits : (s : List ℕ) (h : Head) → reading s ≡ Ok h → (7 + h.count ≤ length s) × (h.count ≤ longest_record)
+record_fits s h e = of (subst (λ (r : Result Head NoRecord). Seen s r) e (saw s)) refl
   where
-    of : {r : Reading} → Seen s r → r ≡ Record h → (7 + h.count ≤ length s) × (h.count ≤ longest_record)
-    of (first w) e = let z : ◌≡◌ {A = ℕ} 0 1 = cc in absurd (omega arith)
-    of (second w) e = let z : ◌≡◌ {A = ℕ} 0 1 = cc in absurd (omega arith)
-    of (many w) e = let z : ◌≡◌ {A = ℕ} 0 1 = cc in absurd (omega arith)
-    of (cut b w) e = let z : ◌≡◌ {A = ℕ} 0 1 = cc in absurd (omega arith)
+    of : {r : Result Head NoRecord} → Seen s r → r ≡ Ok h → (7 + h.count ≤ length s) × (h.count ≤ longest_record)
+    of (first w) e = absurd (cc)
+    of (second w) e = absurd (cc)
+    of (many w) e = absurd (cc)
+    of (cut b w) e = absurd (cc)
     of (whole b w) e =
         let d : head_of s ≡ h = cc in
         let n : (head_of s).count ≡ h.count = ap (λ (x : Head). x.count) d in
@@ -198,9 +199,9 @@ module _ (stamp : ℕ) (bytes rest : List ℕ) (small : stamp < 2 ^ 32) (few : l
   marked = record { first = λ h. refl; second = λ h. refl; few = rw count_is few }
 
   -- a record as it is written is read, whatever stands behind
-  pub record_read : reading (record_of stamp bytes ++ rest) ≡ Record (record { stamp = stamp; count = length bytes })
+  pub record_read : reading (record_of stamp bytes ++ rest) ≡ Ok (record { stamp = stamp; count = length bytes })
   record_read =
-      seen_is (whole marked (rw count_is fits)) ∙ ap Record (λ i. record { stamp = stamp_is i; count = count_is i })
+      seen_is (whole marked (rw count_is fits)) ∙ ap Ok (λ i. record { stamp = stamp_is i; count = count_is i })
 
 -- ---- what is cut
 
@@ -223,7 +224,7 @@ abbrev blank : List ℕ
 blank = 0x4c ∷ 0x4b ∷ 0 ∷ 0 ∷ 0 ∷ 0 ∷ 0 ∷ []
 
 abbrev pub Becomes : List ℕ → Type 0
-Becomes p = (q : List ℕ) × (h : Head) × (reading (p ++ q) ≡ Record h)
+Becomes p = (q : List ℕ) × (h : Head) × (reading (p ++ q) ≡ Ok h)
 
 short_becomes : (p : List ℕ) → Begun p → length p < 7 → Becomes p
 unfolding le_at
@@ -249,16 +250,16 @@ long_becomes p b l =
     (q, head_of (p ++ q), seen_is (whole (still_begun p q l b) f))
 
 -- "More" is said only of what can still become a record
-pub may_become : (p : List ℕ) → reading p ≡ More → Becomes p
+pub may_become : (p : List ℕ) → reading p ≡ Err More → Becomes p
 may_become p e = of (saw p) e
   where
     by_length : (t : Bool) → ltb (length p) 7 ≡ t → Begun p → Becomes p
     by_length true h b = short_becomes p b (ltb-true (length p) 7 h)
     by_length false h b = long_becomes p b (ltb-false (length p) 7 h)
 
-    of : {r : Reading} → Seen p r → r ≡ More → Becomes p
-    of (first w) e = let z : ◌≡◌ {A = ℕ} 0 1 = cc in absurd (omega arith)
-    of (second w) e = let z : ◌≡◌ {A = ℕ} 0 1 = cc in absurd (omega arith)
-    of (many w) e = let z : ◌≡◌ {A = ℕ} 0 1 = cc in absurd (omega arith)
+    of : {r : Result Head NoRecord} → Seen p r → r ≡ Err More → Becomes p
+    of (first w) e = absurd (cc)
+    of (second w) e = absurd (cc)
+    of (many w) e = absurd (cc)
     of (cut b w) e = by_length (ltb (length p) 7) refl b
-    of (whole b w) e = let z : ◌≡◌ {A = ℕ} 0 1 = cc in absurd (omega arith)
+    of (whole b w) e = absurd (cc)

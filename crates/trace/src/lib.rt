@@ -4,6 +4,8 @@
 ghost use Rattle.std.specs.Prelude.{◌≡◌};
 ghost use Rattle.trace.specs.Record.{wrong_at, reading};
 
+use wire::Number;
+
 // The most bytes of a record.
 const LONGEST: usize = 250;
 
@@ -13,11 +15,9 @@ pub struct Head {
     pub count: usize,
 }
 
-// What a part of a trace has at its front.
-#[derive(Clone, Copy)]
-pub enum Reading {
-    // A whole record, of 7 bytes and as many as its head counts.
-    Record(Head),
+// Why a part of a trace has no record at its front.
+#[derive(Clone, Copy, Debug, PartialEq, Eq)]
+pub enum NoRecord {
     // The beginning of one, as far as the part goes.
     More,
     // Nothing that any further byte makes a record.
@@ -25,34 +25,30 @@ pub enum Reading {
 }
 
 // Whether another byte than this stands at a place; past the end stands none.
+#[tactic(auto, unfolding(crate::specs::Record::wrong_at))]
 fn is_wrong(part: &[u8], place: usize, byte: u8) -> bool
     ensures { result ≡ wrong_at place byte part.now }
 {
-    if part.len() <= place {
-        return false;
-    }
-    part[place] != byte
+    part.get(place).is_some_and(|b| *b != byte)
 }
 
-pub fn read_record(part: &[u8]) -> Reading
+// The head of a whole record, which has 7 bytes and as many as its head counts.
+#[tactic(auto, unfolding(crate::specs::Record::reading))]
+pub fn read_record(part: &[u8]) -> Result<Head, NoRecord>
     ensures { result ≡ reading part.now }
 {
-    if is_wrong(part, 0, 0x4c) {
-        return Reading::Bad;
+    if is_wrong(part, 0, 0x4c) || is_wrong(part, 1, 0x4b) {
+        return Err(NoRecord::Bad);
     }
-    if is_wrong(part, 1, 0x4b) {
-        return Reading::Bad;
-    }
-    let count = wire::u8_at(part, 6) as usize;
+    let count = u8::read(part, 6) as usize;
     if LONGEST < count {
-        return Reading::Bad;
+        return Err(NoRecord::Bad);
     }
     if part.len() < 7 + count {
-        return Reading::More;
+        return Err(NoRecord::More);
     }
-    let head = Head {
-        stamp: wire::u32_at(part, 2),
+    Ok(Head {
+        stamp: u32::read(part, 2),
         count,
-    };
-    Reading::Record(head)
+    })
 }

@@ -3,11 +3,11 @@ use mathlib.Core.Path.{sym, ◌∙◌}
 use mathlib.Core.List.{[]}
 use Rattle.promise.specs.Promise.{Leaves}
 use Rattle.unit.proofs.Sets.{judged_as}
-use Rattle.unit.proofs.quiet.Reads as quiet
-use Rattle.unit.proofs.flagged.Reads as flagged
+use Rattle.unit.proofs.Slate.quiet.Reads as quiet
+use Rattle.unit.proofs.Slate.flagged.Reads as flagged
 use Rattle.unit.proofs.echo.Reads as echo
-use Rattle.unit.proofs.refuse_crc.Reads as refuse-crc
-use Rattle.unit.proofs.refuse_field.Reads as refuse-field
+use Rattle.unit.proofs.Slate.refuse_crc.Reads as refuse-crc
+use Rattle.unit.proofs.Slate.refuse_field.Reads as refuse-field
 
 pub quiet_one : Leaves quiet.Post (λ κs r s. r)
 quiet_one κs a r r' s s' p q = p ∙ sym q

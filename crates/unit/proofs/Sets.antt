@@ -7,6 +7,9 @@ use native.Mathlib.Omega.{arith}
 use lib.Dec.{eqb}
 use lib.ListN.{length, take, drop}
 use borrow.Author.Tests.{eq-eqb, ne_eqb, eqb-true}
+use Rattle.std.specs.Prelude.{Option, Some, None}
+use Rattle.ranges.specs.Tests.{found}
+use Rattle.ranges.proofs.Tests.{found_none, none_found, some_found}
 use Rattle.frame.specs.Frame.{data_in, intact}
 use Rattle.rule.specs.Rule.{Said}
 use Rattle.rule.proofs.Choice.{either_by, either}
@@ -50,8 +53,14 @@ module _ (m : Memory) (u : List ℕ) (k bad : ℕ) (done : Said Order Memory) wh
     pub says_damaged : intact u ≡ false → Judges (damaged m) before d after → Judges (checked m u k bad done) before d after
     says_damaged e j = subst (λ (a : Said Order Memory). Judges a before d after) (sym (checked_damaged e)) j
 
-    pub says_refused : (n : ℕ) → n ≡ bad → intact u ≡ true → (n ≡ 0 → ⊥) → Judges (out_of_range m k n) before d after → Judges (checked m u k bad done) before d after
-    says_refused n f e h j = subst (λ (a : Said Order Memory). Judges a before d after) (ap (out_of_range m k) f ∙ sym (checked_refused e (λ z. h (f ∙ z)))) j
+    -- o is what the tests found
+    pub says_refused : (o : Option ℕ) (n : ℕ) → o ≡ found bad → o ≡ Some n → intact u ≡ true → Judges (out_of_range m k n) before d after → Judges (checked m u k bad done) before d after
+    says_refused o n f is e j =
+        let some : found bad ≡ Some n = sym f ∙ is in
+        let none_then : bad ≡ 0 → None ≡ Some n = λ z. sym (found_none z) ∙ some in
+        subst (λ (a : Said Order Memory). Judges a before d after)
+        (ap (out_of_range m k) (sym (some_found bad n some)) ∙ sym (checked_refused e (λ z. let e = none_then z in cc)))
+        j
 
-    pub says_done : (n : ℕ) → n ≡ bad → intact u ≡ true → n ≡ 0 → Judges done before d after → Judges (checked m u k bad done) before d after
-    says_done n f e h j = subst (λ (a : Said Order Memory). Judges a before d after) (sym (checked_done e (sym f ∙ h))) j
+    pub says_done : (o : Option ℕ) → o ≡ found bad → o ≡ None → intact u ≡ true → Judges done before d after → Judges (checked m u k bad done) before d after
+    says_done o f is e j = subst (λ (a : Said Order Memory). Judges a before d after) (sym (checked_done e (none_found bad (sym f ∙ is)))) j

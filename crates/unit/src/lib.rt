@@ -11,10 +11,11 @@ ghost use Rattle.unit.specs.Unit.{damaged, out_of_range, flag_slate, JudgesAny};
 use orders::Order;
 use position::Position;
 use table::Table;
+use wire::Number;
 
 // The flags, and the last refused block and field. All are words, so that a copy has no gap to move.
 #[repr(C)]
-#[derive(Clone, Copy)]
+#[derive(Clone, Copy, PartialEq, Eq)]
 pub struct Notes {
     pub flags: usize,
     pub block: usize,
@@ -31,6 +32,7 @@ pub struct Memory {
 }
 
 // The memory but for its table, which is lent: nothing of it is moved while units are answered.
+// No struct of slate, unit and reply, which are passed on together: it would hold a `&mut`, and every clause would speak of its entry and its exit.
 #[derive(Clone, Copy)]
 pub struct Slate {
     pub notes: Notes,
@@ -43,52 +45,52 @@ pub struct Judged {
     pub slate: Slate,
 }
 
-// No order, and this slate.
-pub fn quiet(slate: Slate) -> Judged
-    ensures { result ≡ record { order = Nothing; slate = slate } }
-{
-    Judged {
-        order: Order::Nothing,
-        slate,
+impl Slate {
+    // No order, and this slate.
+    pub fn quiet(self) -> Judged
+        ensures { result ≡ record { order = Nothing; slate = self } }
+    {
+        Judged {
+            order: Order::Nothing,
+            slate: self,
+        }
     }
-}
 
-// The slate with a flag set.
-pub fn flagged(slate: Slate, bit: usize) -> Slate
-    ensures { result ≡ flag_slate bit slate }
-{
-    let mut notes = slate.notes;
-    notes.flags = notes.flags | bit;
-    let mut next = slate;
-    next.notes = notes;
-    next
+    // With a flag set.
+    pub fn flagged(self, bit: usize) -> Slate
+        ensures { result ≡ flag_slate bit self }
+    {
+        let notes = Notes {
+            flags: self.notes.flags | bit,
+            ..self.notes
+        };
+        Slate { notes, ..self }
+    }
+
+    // The refusals of a set: a wrong CRC, and a field out of its range.
+    pub fn refuse_crc(self, reply: &mut [u8]) -> Judged
+        ensures { JudgesAny damaged self reply.old result reply.new }
+    {
+        wire::put(reply, 0, 4, sheet::names::ERRD as u64);
+        self.flagged(2).quiet()
+    }
+
+    pub fn refuse_field(self, block: usize, field: usize, reply: &mut [u8]) -> Judged
+        ensures { JudgesAny (λ m. out_of_range m block field) self reply.old result reply.new }
+    {
+        wire::put(reply, 0, 4, sheet::names::ERRV as u64);
+        let notes = Notes {
+            flags: self.notes.flags | 4,
+            block,
+            field,
+        };
+        Slate { notes, ..self }.quiet()
+    }
 }
 
 // The name of the unit as its reply.
 pub fn echo(unit: &[u8], reply: &mut [u8])
     ensures { reply.new ≡ sets reply.old 0 (le_bytes 4 (name_of unit.now)) }
 {
-    wire::put(reply, 0, 4, wire::u32_at(unit, 0) as u64)
-}
-
-// The refusals of a set: a wrong CRC, and a field out of its range.
-pub fn refuse_crc(slate: Slate, reply: &mut [u8]) -> Judged
-    ensures { JudgesAny damaged slate reply.old result reply.new }
-{
-    wire::put(reply, 0, 4, sheet::names::ERRD as u64);
-    quiet(flagged(slate, 2))
-}
-
-pub fn refuse_field(slate: Slate, block: usize, field: usize, reply: &mut [u8]) -> Judged
-    ensures { JudgesAny (λ m. out_of_range m block field) slate reply.old result reply.new }
-{
-    wire::put(reply, 0, 4, sheet::names::ERRV as u64);
-    let notes = Notes {
-        flags: slate.notes.flags | 4,
-        block,
-        field,
-    };
-    let mut next = slate;
-    next.notes = notes;
-    quiet(next)
+    wire::put(reply, 0, 4, u32::read(unit, 0) as u64)
 }

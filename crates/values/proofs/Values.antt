@@ -4,18 +4,16 @@ use mathlib.Core.Bool.{Bool, true, false, not, ◌&&◌, ◌||◌, cond}
 use Prim.Native.Nat.{ℕ, zero, suc, ◌+◌, ◌-◌, ◌/◌, ◌%◌, ◌^◌, ◌≤◌, ◌<◌}
 use native.Mathlib.Nat.{lt_irrefl, lt_of_le_of_lt}
 use native.Mathlib.Omega.{arith}
-use lib.Dec.{T, ltb, leb, eqb, leb-zero, lit<}
-use lib.IntN.{ℤ, pos, negsuc, nat_abs}
-use lib.Signed.{le_z, non_neg, mag}
-use lib.Ieee.{Float, nan, inf, fin, binary32, is_nan, nan_bits, of_bits, to_bits, of_fields, odd, div, ne}
+use lib.Dec.{T, ltb, leb, eqb, lit<}
+use lib.IntN.{ℤ, pos, negsuc}
+use lib.Signed.{le_z, mag}
+use lib.Ieee.{Float, nan, inf, fin, binary32, is_nan, nan_bits, of_bits, to_bits, of_fields, odd}
 use lib.Ieee.Bits.{nan_bits_is, nan_bits_above, to_bits-of_bits}
-use lib.Ieee.Compare.{differs_from_itself}
 use borrow.Author.Tests.{lt-leb, leb-true, leb-false, lt-ltb, le-ltb, ltb-true, ltb-false}
-use lib.Pow.{pow_pos}
 use mir.Syntax.{Width, w16, w64}
-use mir.Val.{Fits, SFits, to_z, of_z, sel, bits, hbits}
+use mir.Val.{SFits, to_z, of_z, sel, hbits}
 use mir.Facts.{sfits_widen}
-use mir.ValLaws.{to_z_pos, to_z-of_z, half_full, pow-bits}
+use mir.ValLaws.{to_z-of_z}
 use Rattle.ranges.specs.Tests.{signed_within, finite}
 use Rattle.ranges.proofs.Tests.{and_true, or_no}
 
@@ -33,33 +31,6 @@ module _ (w : Width) (z : ℤ) (narrower : T (leb (hbits w) (hbits w64))) (fits 
   pub widened : {r : ℤ} → r ≡ to_z w (of_z w z) → to_z w64 (of_z w64 r) ≡ z
   widened e = ap (λ (y : ℤ). to_z w64 (of_z w64 y)) (e ∙ to_z-of_z w z fits) ∙ to_z-of_z w64 z (sfits_widen narrower fits)
 
--- ---- the sign's test, of a number's bits
-
-pub low_of : (w : Width) (b : ℕ) → le_z (pos 0) (to_z w b) ≡ true → b < 2 ^ hbits w
-low_of w b e = go (ltb b (2 ^ hbits w)) refl e
-  where
-    go : (t : Bool) → ltb b (2 ^ hbits w) ≡ t → le_z (pos 0) (sel t (pos b) (negsuc (2 ^ bits w - suc b))) ≡ true → b < 2 ^ hbits w
-    go true p q = ltb-true b (2 ^ hbits w) p
-    go false p q = absurd (subst T (sym q) tt)
-
-pub high_of : (w : Width) (b : ℕ) → le_z (pos 0) (to_z w b) ≡ false → 2 ^ hbits w ≤ b
-high_of w b e = ltb-false b (2 ^ hbits w) (go (ltb b (2 ^ hbits w)) e)
-  where
-    go : (t : Bool) → le_z (pos 0) (sel t (pos b) (negsuc (2 ^ bits w - suc b))) ≡ false → t ≡ false
-    go true q = absurd (subst T (sym (leb-zero b) ∙ q) tt)
-    go false q = refl
-
--- a cast of a number that is not negative to unsigned: it is asked, and gives the bits
-pub cast_low : (w : Width) (b : ℕ) → b < 2 ^ hbits w → T (non_neg (to_z w b)) × Fits w (nat_abs (to_z w b))
-cast_low w b h = rw (to_z_pos w b h) (tt, record { fits = half_full w h })
-
-pub abs_low : (w : Width) (b : ℕ) → b < 2 ^ hbits w → nat_abs (to_z w b) ≡ b
-abs_low w b h = rw (to_z_pos w b h)
-
--- a negative number's bits, turned, are those of one that is not negative
-pub turned : (w : Width) (b : ℕ) → le_z (pos 0) (to_z w b) ≡ false → (2 ^ bits w - 1) - b < 2 ^ hbits w
-turned w b e = omega (arith, high_of w b e, pow-bits w, pow_pos (hbits w))
-
 -- ---- floats
 
 pub is_nan_lem : (x : Float) → is_nan x ≡ true → x ≡ nan
@@ -68,26 +39,13 @@ is_nan_lem nan e = refl
 is_nan_lem (inf s) e = absurd (subst T (sym e) tt)
 is_nan_lem (fin s m d) e = absurd (subst T (sym e) tt)
 
-pub no_nan : (x : Float) → ne x x ≡ false → T (not (is_nan x))
-unfolding is_nan ne
-no_nan nan e = absurd (subst T e tt)
-no_nan (inf s) e = tt
-no_nan (fin s m d) e = tt
-
-pub is_nan_differs : (x : Float) → ne x x ≡ true → x ≡ nan
-is_nan_differs x e = differs_from_itself x (subst T (sym e) tt)
-
 pub pattern_no_nan : (n : ℕ) → n % 2147483648 ≤ 2139095040 → T (not (nan_bits binary32 n))
 pattern_no_nan n h = subst (λ (b : Bool). T (not b)) (sym (nan_bits_above binary32 n ∙ le-ltb 2139095040 (n % 2147483648) h)) tt
 
 pub pattern_nan : (n : ℕ) → 2139095040 < n % 2147483648 → of_bits binary32 n ≡ nan
 pattern_nan n h = is_nan_lem (of_bits binary32 n) (sym (nan_bits_is binary32 n) ∙ nan_bits_above binary32 n ∙ lt-ltb 2139095040 (n % 2147483648) h)
 
--- the quotient 0 / 0, and the infinity's pattern
-pub zero_by_zero : div binary32 (of_bits binary32 0) (of_bits binary32 0) ≡ nan
-unfolding div of_bits
-zero_by_zero = refl
-
+-- the NaN's pattern
 pub nan_bits_lem : to_bits binary32 nan ≡ 2143289344
 unfolding to_bits
 nan_bits_lem = refl
@@ -136,6 +94,16 @@ bits_back n h e = to_bits-of_bits binary32 n h (number_no_nan (of_bits binary32 
 pub minus_zero : to_bits binary32 (of_bits binary32 2147483648) ≡ 2147483648
 unfolding finite
 minus_zero = bits_back 2147483648 (lit< tt) refl
+
+-- a float that was read is sent as a pattern of the same float, a NaN too
+same_go : (n : ℕ) (x : Float) → x ≡ of_bits binary32 n → n < 2 ^ 32 → of_bits binary32 (to_bits binary32 x) ≡ x
+unfolding is_nan
+same_go n nan e h = ap (of_bits binary32) nan_bits_lem ∙ pattern_nan 2143289344 (omega arith)
+same_go n (inf s) e h = ap (of_bits binary32) (ap (to_bits binary32) e ∙ to_bits-of_bits binary32 n h (subst (λ (x : Float). T (not (is_nan x))) e tt)) ∙ sym e
+same_go n (fin s m d) e h = ap (of_bits binary32) (ap (to_bits binary32) e ∙ to_bits-of_bits binary32 n h (subst (λ (x : Float). T (not (is_nan x))) e tt)) ∙ sym e
+
+pub same_float : (n : ℕ) → n < 2 ^ 32 → of_bits binary32 (to_bits binary32 (of_bits binary32 n)) ≡ of_bits binary32 n
+same_float n h = same_go n (of_bits binary32 n) refl h
 
 -- the test says the same of a number, and of the float that it stands for
 bits_judged_go : (n : ℕ) (x : Float) → x ≡ of_bits binary32 n → n < 2 ^ 32 → finite (to_bits binary32 x) ≡ finite n

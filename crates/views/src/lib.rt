@@ -1,4 +1,5 @@
 // The fields of a block, read out of a table: for C and Rust, in an archive of its own (views_c), as same_c is. Past the end of a shorter table stand zeros.
+// A function a block and none over all, since C calls each by a name of its own.
 #![tactic(auto)]
 
 ghost use Rattle.std.specs.Prelude.{◌≡◌};
@@ -22,6 +23,7 @@ use joy::Joy;
 use mov::Mov;
 use pid::Pid;
 use pwr::Pwr;
+use sheet::Section;
 
 pub fn rivertosku_mov_4(bytes: &[u8]) -> Mov
     ensures { result ≡ mov_of (numbers_of bytes.now 1) }

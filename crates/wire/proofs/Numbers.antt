@@ -1,12 +1,16 @@
 -- Laws of numbers on the wire, over width and place. Assumes nothing.
-use mathlib.Core.Path.{◌≡◌, refl, ap}
+use mathlib.Core.Path.{◌≡◌, refl, sym, ap, ◌∙◌}
+use mathlib.Core.Bool.{Bool, true, false}
 use mathlib.Core.List.{List, [], ◌∷◌, ◌++◌}
-use Prim.Native.Nat.{ℕ, zero, suc, ◌+◌, ◌*◌, ◌/◌, ◌%◌, ◌^◌, ◌≤◌, ◌<◌}
+use Prim.Native.Nat.{ℕ, zero, suc, min, ◌+◌, ◌-◌, ◌*◌, ◌/◌, ◌%◌, ◌^◌, ◌≤◌, ◌<◌}
 use native.Mathlib.Nat.{add_assoc, add-suc, add-zero, zero-add, suc-add, mul_assoc, pow-succ'}
 use native.Mathlib.Numerals.{add-one}
 use native.Mathlib.Omega.{arith}
-use lib.ListN.{length, get_or, take, drop, replicate, get_or-eq_default}
-use lib.Seq.{get_or-append-add, get_or-take, get_or-drop, drop-cons}
+use lib.ListN.{length, get_or, take, drop, replicate, length-drop, get_or-eq_default}
+use lib.Dec.{leb}
+use borrow.Author.Tests.{leb-true, leb-false}
+use Rattle.std.specs.Int.{w8, w16, w32, w64, from_le_bytes}
+use lib.Seq.{get_or-append-add, get_or-take, get_or-drop, drop-cons, take_all}
 use Rattle.wire.specs.Numbers.{le_at, le_bytes}
 
 pub length_le_bytes : (w v : ℕ) → length (le_bytes w v) ≡ w
@@ -85,6 +89,34 @@ unfolding le_at
 le_at_past zero p s h = refl
 le_at_past (suc w) p s h = omega (arith, get_or-eq_default s 0 h, le_at_past w (p + 1) s (omega arith))
 
+-- from a place on, if that is in the list, and else from its end
+pub le_at_rest : (w p n : ℕ) (s : List ℕ) → n ≡ min p (length s) → le_at w 0 (take (length s - n) (drop n s)) ≡ le_at w p s
+le_at_rest w p n s e =
+    let l : length (drop n s) ≤ length s - n = omega (arith, length-drop n s) in
+    rw (take_all (length s - n) (drop n s) l, le_at_drop w 0 n s, add-zero) (by (leb p (length s)) refl)
+  where
+    by : (t : Bool) → leb p (length s) ≡ t → le_at w n s ≡ le_at w p s
+    by true f = let g = leb-true p (length s) f in let i : n ≡ p = omega arith in ap (λ (k : ℕ). le_at w k s) i
+    by false f =
+        let g = leb-false p (length s) f in
+        le_at_past w n s (omega arith) ∙ sym (le_at_past w p s (omega arith))
+
+-- zeros behind a list change nothing
+zero_at : (n i : ℕ) → ◌≡◌ {A = ℕ} (get_or (replicate n 0) i 0) 0
+zero_at zero i = refl
+zero_at (suc n) zero = refl
+zero_at (suc n) (suc i) = zero_at n i
+
+behind : (s z : List ℕ) → ((i : ℕ) → get_or z i 0 ≡ 0) → (i : ℕ) → get_or (s ++ z) i 0 ≡ get_or s i 0
+behind [] z h i = h i
+behind (x ∷ s) z h zero = refl
+behind (x ∷ s) z h (suc i) = behind s z h i
+
+pub le_at_zeros : (w p k n : ℕ) (s : List ℕ) → le_at w p (s ++ drop k (replicate n 0)) ≡ le_at w p s
+le_at_zeros w p k n s =
+    le_at_same w p (s ++ drop k (replicate n 0)) s
+    (λ i a b. behind s (drop k (replicate n 0)) (λ j. get_or-drop k (replicate n 0) j 0 ∙ zero_at n (k + j)) i)
+
 -- a number of a + b bytes is that of the first a, and that of the b behind them
 pub le_at_split : (a b p : ℕ) (s : List ℕ) → le_at (a + b) p s ≡ le_at a p s + 256 ^ a * le_at b (p + a) s
 unfolding le_at
@@ -94,19 +126,20 @@ le_at_split (suc a) b p s =
     let e : p + 1 + a ≡ p + suc a = omega arith in
     rw (suc-add, i, e, pow-succ') (omega (arith, mul_assoc 256 (256 ^ a) (le_at b (p + suc a) s)))
 
--- ---- the three widths that the code reads, byte by byte
+-- ---- as std reads an array's bytes, low byte first
 
-place : (s : List ℕ) (i j : ℕ) → i ≡ j → get_or s i 0 ≡ get_or s j 0
-place s i j e = ap (λ (k : ℕ). get_or s k 0) e
-
-pub le_at_1 : (p : ℕ) (s : List ℕ) → le_at 1 p s ≡ get_or s (p + 0) 0
+pub read_1 : (bs : List ℕ) → from_le_bytes w8 bs ≡ le_at 1 0 bs
 unfolding le_at
-le_at_1 p s = omega (arith, place s (p + 0) p (omega arith))
+read_1 bs = omega arith
 
-pub le_at_2 : (p : ℕ) (s : List ℕ) → le_at 2 p s ≡ get_or s (p + 0) 0 + 256 * get_or s (p + 1) 0
+pub read_2 : (bs : List ℕ) → from_le_bytes w16 bs ≡ le_at 2 0 bs
 unfolding le_at
-le_at_2 p s = omega (arith, place s (p + 0) p (omega arith))
+read_2 bs = omega arith
 
-pub le_at_4 : (p : ℕ) (s : List ℕ) → le_at 4 p s ≡ get_or s (p + 0) 0 + 256 * (get_or s (p + 1) 0 + 256 * (get_or s (p + 2) 0 + 256 * get_or s (p + 3) 0))
+pub read_4 : (bs : List ℕ) → from_le_bytes w32 bs ≡ le_at 4 0 bs
 unfolding le_at
-le_at_4 p s = omega (arith, place s (p + 0) p (omega arith), place s (p + 2) (p + 1 + 1) (omega arith), place s (p + 3) (p + 1 + 1 + 1) (omega arith))
+read_4 bs = omega arith
+
+pub read_8 : (bs : List ℕ) → from_le_bytes w64 bs ≡ le_at 8 0 bs
+unfolding le_at
+read_8 bs = omega arith

@@ -1,5 +1,5 @@
 -- A run of stores at a place: what it changes, what it leaves, and the same through the lent rest of a buffer. Assumes nothing.
-use mathlib.Core.Path.{◌≡◌, refl, ap, ◌∙◌, subst}
+use mathlib.Core.Path.{◌≡◌, refl, sym, ap, ◌∙◌, subst}
 use mathlib.Core.Bool.{Bool, true, false}
 use mathlib.Core.List.{List, [], ◌∷◌, ◌++◌, append-nil, append_assoc}
 use Prim.Native.Nat.{ℕ, zero, suc, ◌+◌, ◌-◌, ◌/◌, ◌%◌, ◌^◌, ◌≤◌, ◌<◌, min}
@@ -7,7 +7,7 @@ use native.Mathlib.Nat.{add-zero, zero-add, add-suc, suc-add, lt_irrefl, le_of_e
 use native.Mathlib.Numerals.{add-one, sub-one}
 use native.Mathlib.Omega.{arith}
 use lib.ListN.{length, get_or, take, drop, set, length-drop, drop_of_length-le, take-append-drop}
-use lib.Seq.{sets, sets-eq, set_out, get_or-set_other, take-set-le, drop-set-add, drop-cons, take_all, take-append_seam, drop-append_seam, drop-drop, length-take-le}
+use lib.Seq.{sets, length-sets, sets-eq, set_out, get_or-set_other, take-set-le, drop-set-add, drop-cons, take_all, take-append_seam, drop-append_seam, drop-drop, length-take-le}
 use lib.Dec.{leb}
 use borrow.Author.Tests.{leb-true, leb-false}
 use borrow.Rule.Slice.PartMut.{mid_of, put_mid}
@@ -110,3 +110,23 @@ sets_rest vs xs a j =
     let l : length (drop a xs) ≤ length xs - a = le_of_eq (length-drop a xs) in
     rw (take_all (length xs - a) (drop a xs) l, drop_of_length-le (drop a xs) l, append-nil (sets (drop a xs) j vs), ← drop_sets vs xs a j, ← take_sets vs xs a j)
     (take-append-drop a (sets xs (a + j) vs))
+
+-- ---- as much of a part as there are places for, written over those places
+
+pub stored : (s vs : List ℕ) (p n : ℕ) → p ≤ length s → n ≡ min (length vs) (length s - p) → put_mid p n s (take n vs) ≡ sets s p vs
+stored s vs p n h e =
+    let l : length (take n vs) ≡ n = length-take-le n vs (omega (arith, e)) in
+    let k : p + length (take n vs) ≤ length s = omega (arith, l, e) in
+    let part = sets s p (take n vs) in
+    let long : length part ≡ length s = length-sets s p (take n vs) in
+    rw l at (sym (sets_between p (take n vs) s k))
+    ∙ sym (copy_end part vs p n (omega (arith, long)) (omega (arith, long, e)))
+    ∙ rw l at (sym (sets_append s p (take n vs) (drop n vs)))
+    ∙ ap (sets s p) (take-append-drop n vs)
+
+-- the first bytes of a number
+pub take_le_bytes : (n w v : ℕ) → n ≤ w → take n (le_bytes w v) ≡ le_bytes n v
+unfolding le_bytes
+take_le_bytes zero w v h = refl
+take_le_bytes (suc n) zero v h = absurd (omega arith)
+take_le_bytes (suc n) (suc w) v h = ap (λ (l : List ℕ). v % 256 ∷ l) (take_le_bytes n w (v / 256) (omega arith))

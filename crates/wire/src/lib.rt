@@ -1,77 +1,198 @@
-// Unsigned numbers on the wire, low byte first: read and written at any place of a slice, laid one behind the other. Every function answers
+// Numbers on the wire, low byte first: read and written at any place of a slice, laid one behind the other. Every function answers
 // every input: a byte past the end reads as 0, and a store past the end is none.
 #![tactic(auto)]
 
-ghost use Rattle.std.specs.Prelude.{◌≡◌, ◌+◌, ◌*◌, min, get_or};
+ghost use Rattle.std.specs.Prelude.{◌≡◌, ℕ, ◌^◌, ◌<◌, refl};
+ghost use Rattle.std.specs.Float.{binary32};
+ghost use Rattle.std.specs.Float.Ieee.{of_bits, to_bits};
+ghost use Rattle.std.specs.Int.{w16, w32, w64};
+ghost use Rattle.std.proofs.Common.{to_z, of_z, ap};
+ghost use Rattle.std.proofs.lemmas.Int.{of_z-to_z};
+ghost use Rattle.values.proofs.Values.{same_float};
 ghost use Rattle.std.proofs.lemmas.List.Edits.{sets};
 ghost use Rattle.wire.specs.Numbers.{le_at, le_bytes};
 ghost use Rattle.wire.specs.Layout.{laid};
 
+use values::Bits;
+
 // ---- reading
 
-// The byte k places behind a place.
-fn byte_at(s: &[u8], at: usize, k: usize) -> u8
-    ensures { result ≡ get_or s.now (at + k) 0 }
+// N bytes from a place on, in an array. Where all are there, they are read together; past the end stand zeros.
+fn bytes_at<const N: usize>(s: &[u8], at: usize) -> [u8; N]
+    ensures { le_at N 0 result ≡ le_at N at s.now }
 {
-    if s.len() <= at {
-        return 0;
-    }
-    if s.len() - at <= k {
-        return 0;
-    }
-    s[at + k]
-}
-
-pub fn u8_at(s: &[u8], at: usize) -> u8
-    ensures { result ≡ le_at 1 at s.now }
-{
-    byte_at(s, at, 0)
-}
-
-pub fn u16_at(s: &[u8], at: usize) -> u16
-    ensures { result ≡ le_at 2 at s.now }
-{
-    byte_at(s, at, 0) as u16 + 256 * byte_at(s, at, 1) as u16
-}
-
-// The number of four bytes, the low one first.
-fn four(a: u8, b: u8, c: u8, d: u8) -> u32
-    ensures { result ≡ a + 256 * (b + 256 * (c + 256 * d)) }
-{
-    a as u32 + 256 * (b as u32 + 256 * (c as u32 + 256 * d as u32))
-}
-
-// Where all four bytes are there, they are read together.
-pub fn u32_at(s: &[u8], at: usize) -> u32
-    ensures { result ≡ le_at 4 at s.now }
-{
-    if at < s.len() {
-        if 4 <= s.len() - at {
-            return four(s[at], s[at + 1], s[at + 2], s[at + 3]);
+    let rest = &s[at.min(s.len())..];
+    match rest.split_first_chunk() {
+        Some((bytes, _)) => *bytes,
+        None => {
+            let mut bytes = [0; N];
+            bytes[..rest.len()].copy_from_slice(rest);
+            bytes
         }
     }
-    four(
-        byte_at(s, at, 0),
-        byte_at(s, at, 1),
-        byte_at(s, at, 2),
-        byte_at(s, at, 3),
-    )
 }
 
-// The number of eight bytes by its two halves, the low one first.
-fn eight(low: u32, high: u32) -> u64
-    ensures { result ≡ low + 4294967296 * high }
-{
-    low as u64 + 4294967296 * high as u64
+// A number as it stands on the wire, low byte first: in how many bytes, what number of no sign stands for it, and back.
+pub trait Number: Copy {
+    ghost width: { ℕ };
+
+    ghost stands_for: { ℕ → Self };
+
+    ghost on_wire: { Self → ℕ };
+
+    fn read(s: &[u8], at: usize) -> Self
+        ensures { result ≡ stands_for (le_at width at s.now) };
+
+    fn number(self) -> u64
+        ensures { result ≡ on_wire self };
+
+    // What was read is sent as a number that stands for the same.
+    ghost back: { (n : ℕ) → n < 256 ^ width → stands_for (on_wire (stands_for n)) ≡ stands_for n };
 }
 
-pub fn u64_at(s: &[u8], at: usize) -> u64
-    ensures { result ≡ le_at 8 at s.now }
-{
-    if s.len() <= at {
-        return 0;
+// An impl a type, since rt takes none that a macro writes.
+impl Number for u8 {
+    ghost width = { 1 };
+
+    ghost stands_for = { λ n. n };
+
+    ghost on_wire = { λ n. n };
+
+    fn read(s: &[u8], at: usize) -> u8 {
+        u8::from_le_bytes(bytes_at(s, at))
     }
-    eight(u32_at(s, at), u32_at(s, at + 4))
+
+    fn number(self) -> u64 {
+        u64::from(self)
+    }
+
+    ghost back = { λ n h. refl };
+}
+
+impl Number for u16 {
+    ghost width = { 2 };
+
+    ghost stands_for = { λ n. n };
+
+    ghost on_wire = { λ n. n };
+
+    fn read(s: &[u8], at: usize) -> u16 {
+        u16::from_le_bytes(bytes_at(s, at))
+    }
+
+    fn number(self) -> u64 {
+        u64::from(self)
+    }
+
+    ghost back = { λ n h. refl };
+}
+
+impl Number for u32 {
+    ghost width = { 4 };
+
+    ghost stands_for = { λ n. n };
+
+    ghost on_wire = { λ n. n };
+
+    fn read(s: &[u8], at: usize) -> u32 {
+        u32::from_le_bytes(bytes_at(s, at))
+    }
+
+    fn number(self) -> u64 {
+        u64::from(self)
+    }
+
+    ghost back = { λ n h. refl };
+}
+
+impl Number for u64 {
+    ghost width = { 8 };
+
+    ghost stands_for = { λ n. n };
+
+    ghost on_wire = { λ n. n };
+
+    fn read(s: &[u8], at: usize) -> u64 {
+        u64::from_le_bytes(bytes_at(s, at))
+    }
+
+    fn number(self) -> u64 {
+        self
+    }
+
+    ghost back = { λ n h. refl };
+}
+
+impl Number for i16 {
+    ghost width = { 2 };
+
+    ghost stands_for = { to_z w16 };
+
+    ghost on_wire = { of_z w16 };
+
+    fn read(s: &[u8], at: usize) -> i16 {
+        i16::of_bits(u16::read(s, at))
+    }
+
+    fn number(self) -> u64 {
+        u64::from(self.bits())
+    }
+
+    ghost back = { λ n h. ap (to_z w16) (of_z-to_z w16 n h) };
+}
+
+impl Number for i32 {
+    ghost width = { 4 };
+
+    ghost stands_for = { to_z w32 };
+
+    ghost on_wire = { of_z w32 };
+
+    fn read(s: &[u8], at: usize) -> i32 {
+        i32::of_bits(u32::read(s, at))
+    }
+
+    fn number(self) -> u64 {
+        u64::from(self.bits())
+    }
+
+    ghost back = { λ n h. ap (to_z w32) (of_z-to_z w32 n h) };
+}
+
+impl Number for i64 {
+    ghost width = { 8 };
+
+    ghost stands_for = { to_z w64 };
+
+    ghost on_wire = { of_z w64 };
+
+    fn read(s: &[u8], at: usize) -> i64 {
+        i64::of_bits(u64::read(s, at))
+    }
+
+    fn number(self) -> u64 {
+        self.bits()
+    }
+
+    ghost back = { λ n h. ap (to_z w64) (of_z-to_z w64 n h) };
+}
+
+impl Number for f32 {
+    ghost width = { 4 };
+
+    ghost stands_for = { of_bits binary32 };
+
+    ghost on_wire = { to_bits binary32 };
+
+    fn read(s: &[u8], at: usize) -> f32 {
+        f32::of_bits(u32::read(s, at))
+    }
+
+    fn number(self) -> u64 {
+        u64::from(self.bits())
+    }
+
+    ghost back = { same_float };
 }
 
 // ---- writing
@@ -80,24 +201,16 @@ pub fn u64_at(s: &[u8], at: usize) -> u64
 pub fn put(out: &mut [u8], at: usize, w: usize, v: u64)
     ensures { out.new ≡ sets out.old at (le_bytes w v) }
 {
-    let mut p = at;
-    let mut left = w;
-    let mut x = v;
-    while 0 < left {
-        if out.len() <= p {
-            return;
-        }
-        out[p] = (x % 256) as u8;
-        x = x / 256;
-        p += 1;
-        left -= 1;
+    if out.len() <= at {
+        return;
     }
-}
-
-fn number_at(vs: &[u64], k: usize) -> u64
-    ensures { result ≡ get_or vs.now k 0 }
-{
-    if k < vs.len() { vs[k] } else { 0 }
+    let n = w.min(out.len() - at);
+    let part = &mut out[at..at + n];
+    let mut x = v;
+    for place in part {
+        *place = (x % 256) as u8;
+        x /= 256;
+    }
 }
 
 // Numbers one behind the other from the front on, each in its width; a width without a number is zeros.
@@ -105,36 +218,22 @@ pub fn lay(out: &mut [u8], ws: &[usize], vs: &[u64])
     ensures { out.new ≡ sets out.old 0 (laid ws.now vs.now) }
 {
     let mut at = 0;
-    let mut k = 0;
-    while k < ws.len() {
-        let w = ws[k];
-        let v = number_at(vs, k);
-        put(out, at, w, v);
+    for (k, &w) in ws.iter().enumerate() {
+        put(out, at, w, vs.get(k).copied().unwrap_or(0));
         if out.len() - at <= w {
             return;
         }
         at += w;
-        k += 1;
     }
 }
 
-fn smaller(a: usize, b: usize) -> usize
-    ensures { result ≡ min a b }
-{
-    if a < b { a } else { b }
-}
-
-// The bytes of a part from a place on. How many fit is told first, so that they are copied together.
+// The bytes of a part from a place on, as many as fit.
 pub fn copy(out: &mut [u8], at: usize, part: &[u8])
     ensures { out.new ≡ sets out.old at part.now }
 {
     if out.len() <= at {
         return;
     }
-    let n = smaller(part.len(), out.len() - at);
-    let mut k = 0;
-    while k < n {
-        out[at + k] = part[k];
-        k += 1;
-    }
+    let n = part.len().min(out.len() - at);
+    out[at..at + n].copy_from_slice(&part[..n]);
 }

@@ -1,11 +1,12 @@
 -- Each turn but the last passes a record.
-use Rattle.std.proofs.Common.{◌-◌, length}
+use Rattle.std.proofs.Common.{length}
 use Rattle.streams.specs.Streams.{Grows}
 use Rattle.bench.proofs.Traces.{SoFar}
 use Rattle.bench.proofs.run.Given as goal
 
-abbrev pub invariant-loop-at : goal.invariant-loop-at
-invariant-loop-at g l = SoFar l.bytes l.at l.board l.calls × Grows (g.W.Write.contents l.initial.out) (g.W.Write.contents l.out)
+abbrev pub invariant-loop-rest : goal.invariant-loop-rest
+invariant-loop-rest g l =
+    SoFar l.bytes l.rest l.ran.board l.ran.calls × Grows (g.W.Write.contents l.initial.out) (g.W.Write.contents l.out)
 
-abbrev pub decreases-loop-at : goal.decreases-loop-at
-decreases-loop-at g l = length l.bytes - l.at
+abbrev pub decreases-loop-rest : goal.decreases-loop-rest
+decreases-loop-rest g l = length l.rest

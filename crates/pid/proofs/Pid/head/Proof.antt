@@ -1,7 +1,0 @@
--- `pid::Pid::head` meets its contract: the constants are the row's, by computation. Assumes nothing.
-use mathlib.Core.Path.{refl}
-use Rattle.pid.proofs.Pid.head.Statement.{statement}
-use Rattle.pid.proofs.Pid.head.Tie as tie
-
-pub head_spec : {M : Type 1} → statement M
-head_spec = tie.close (tie.spec (λ c. refl))
