@@ -2,6 +2,7 @@
 #![tactic(auto)]
 
 ghost use Rattle.std.specs.Prelude.{false, cond, ◌≡◌, ◌++◌, ◌+◌, ◌≤◌, ◌<◌, eqb, ltb, length, get_or, take};
+ghost use Rattle.std.proofs.lemmas.List.Edits.{sets};
 ghost use Rattle.rule.specs.Run.{late};
 ghost use Rattle.sheet.specs.Lengths.{longest_frame, longest_piece};
 ghost use Rattle.names.specs.Names.{need};
@@ -17,12 +18,24 @@ use unit::Slate;
 // The bytes held and a piece behind them.
 const LINE: usize = sheet::FRAME + sheet::PIECE;
 
-// A piece, laid behind the first bytes held, where they are no longer than a unit can be; and zeros behind it.
+// A piece, stored behind the first bytes held. Most pieces are one byte: it is stored here, where a copy of any length would be a call.
+fn join(held: &mut [u8; sheet::FRAME], had: usize, piece: &[u8])
+    requires { had + length piece.now ≤ longest_frame }
+    ensures { held.new ≡ sets held.old had piece.now }
+{
+    if piece.len() == 1 {
+        held[had] = piece[0];
+    } else {
+        wire::copy(held, had, piece);
+    }
+}
+
+// The same, where they are no longer than a unit can be, and zeros behind it.
 fn hold(held: &mut [u8; sheet::FRAME], had: usize, piece: &[u8])
     requires { had + length piece.now ≤ longest_frame }
     ensures { held.new ≡ padded (take had held.old ++ piece.now) }
 {
-    wire::copy(held, had, piece);
+    join(held, had, piece);
     let end = had + piece.len();
     wire::put(held, end, sheet::FRAME - end, 0);
 }

@@ -3,4 +3,4 @@ use Rattle.state.proofs.Padded.{padded_behind}
 use Rattle.receiver.proofs.hold.Goals as goal
 
 pub returns : goal.returns
-returns c = padded_behind c.args.held.now c.args.piece.now _ _ c.args.had c.told-held c.requires c.copy.ensures c.put.ensures
+returns c = padded_behind c.args.held.now c.args.piece.now _ _ c.args.had c.told-held c.requires c.join.ensures c.put.ensures
