@@ -8,6 +8,7 @@ use unit::{Judged, Slate};
 use wire::Number;
 
 // A get's answer. The data section is laid out aside, so that its CRC is taken of what is sent: in a buffer of the longest, as there is no heap.
+#[tactic(auto, using(names::proofs::Lengths::get_total))]
 fn answer_get(
     table: &[u8; table::SIZE],
     slate: Slate,
@@ -24,7 +25,9 @@ fn answer_get(
     slate.quiet()
 }
 
-// A set's answer: the CRC first, then the fields; stored whole or not at all.
+// A set's answer: the CRC first, then the fields; stored whole or not at all. Not by travel's `carried`: its block is asked for by number, and the bytes
+// are stored as they came.
+#[tactic(auto, unfolding(unit::specs::Unit::puts, unit::specs::Unit::checked))]
 fn answer_set(
     table: &mut [u8; table::SIZE],
     slate: Slate,
@@ -45,7 +48,9 @@ fn answer_set(
     slate.quiet()
 }
 
-// The answer to a whole unit, of the kind that its first bytes say: the caller has looked it up. The table is changed where it stands.
+// The answer to a whole unit, of the kind that its first bytes say: the caller has looked it up. The table is changed where it stands. A match, which has
+// an arm for each kind there is.
+#[tactic(auto, using(unit::proofs::Sets::answered_as), unfolding(unit::specs::Unit::does, wire::specs::Numbers::le_bytes))]
 pub fn answer(
     table: &mut [u8; table::SIZE],
     slate: Slate,
@@ -71,7 +76,7 @@ pub fn answer(
         Kind::Finds => travel::places::answer_gpos(slate, u32::read(unit, 0), reply),
         Kind::Clears => travel::places::answer_zero(slate, unit, reply),
         Kind::Unknown => {
-            wire::put(reply, 0, 4, sheet::names::ERRC as u64);
+            wire::put(reply, 0, 4, sheet::names::ERRC.number());
             slate.flagged(1).quiet()
         }
     }

@@ -65,15 +65,7 @@ module _ (s : List ℕ) where
     abbrev u : List ℕ
     u = take (total (row_of b)) s
 
-    pub data_cut : length s < total (row_of b) → data_answer b s ≡ refused_read 7
-    unfolding data_answer
-    data_cut h = rw (lt-ltb (length s) (total (row_of b)) h)
-
     module _ (long : total (row_of b) ≤ length s) where
-      pub data_damaged : intact u ≡ false → data_answer b s ≡ refused_read 8
-      unfolding data_answer
-      data_damaged e = rw (le-ltb (length s) (total (row_of b)) long, e)
-
       pub data_taken : intact u ≡ true → data_answer b s ≡ answer_of (total (row_of b)) (Data (fields_in b (data_in u)))
       unfolding data_answer
       data_taken e = rw (le-ltb (length s) (total (row_of b)) long, e)

@@ -38,6 +38,7 @@ pub enum Unread {
     Damaged = 8,
 }
 
+// By hand with `as`, since nothing derives it.
 impl From<Unread> for u8 {
     ghost from_gives = { λ unread number. number ≡ refusal_number unread };
 
@@ -77,10 +78,8 @@ fn read_data(block: Block, bytes: &[u8]) -> Result<Reading, Unread>
 {
     let size = block.head().total;
     let sent = bytes.get(..size).ok_or(Unread::Cut)?;
-    if !frame::is_intact(sent) {
-        return Err(Unread::Damaged);
-    }
-    let answer = Answer::Data(Fields::decode(block, &sent[4..size - 2]));
+    let section = frame::section(sent).ok_or(Unread::Damaged)?;
+    let answer = Answer::Data(Fields::decode(block, section));
     Ok(Reading { size, answer })
 }
 

@@ -1,5 +1,7 @@
 // The bench: runs a trace from standard input through the receiver, and prints a line a call (sheet 01, "The bench program").
 // An error of any function here is the output's, or of `main` the input's: what was printed before it stays, and it ends the program.
+// A line is laid in a buffer that holds the longest, and its length is the answer: there is no heap (see `main`). That each leaves what `out` held (`Grows`)
+// is of its entry and its exit, so no type of `out` can say it.
 #![tactic(auto)]
 
 ghost use Rattle.std.specs.Prelude.{true, ◌≡◌, ◌≤◌, length, IfOk};

@@ -7,7 +7,7 @@ ghost use Rattle.unit.specs.Protocol.{fresh_state};
 ghost use Rattle.state.specs.State.{board_of};
 ghost use Rattle.state.specs.Parts.{board_at};
 ghost use Rattle.state.specs.Sound.{refusal_of};
-ghost use Rattle.state.specs.Refused.{number_in, report_in};
+ghost use Rattle.state.specs.Refused.{report_in};
 ghost use Rattle.clock.specs.Report.{reported};
 ghost use Rattle.drive.specs.Report.{reported as located};
 ghost use Rattle.flash.specs.Flash.{out_number, handed, taken_back};
@@ -29,29 +29,13 @@ pub struct Answer {
     pub order: u8,
 }
 
-// 01's number of an answer, 0 where it is no refusal.
-fn number<T: Drop>(answer: Result<T, Refusal>) -> u8
-    ensures { result ≡ number_in answer }
-{
-    match answer {
-        Ok(_) => 0,
-        Err(refusal) => u8::from(refusal),
-    }
-}
-
 // What a report to a board answers.
 fn report(board: Board, answer: Result<Board, Refusal>) -> Report
     ensures { result ≡ report_in board answer }
 {
-    match answer {
-        Ok(next) => Report {
-            number: 0,
-            board: next,
-        },
-        Err(refusal) => Report {
-            number: u8::from(refusal),
-            board,
-        },
+    Report {
+        number: state::number_in(&answer),
+        board: answer.unwrap_or(board),
     }
 }
 
@@ -109,18 +93,18 @@ pub fn rivertosku_report_position_4(board: Board, position: Position) -> Report
     report(board, drive::report_position(board, position))
 }
 
-// 0, or 3 where the board is not sound.
+// 0, or 3 where the board is not sound: a number, as C gets it.
 pub fn rivertosku_judge_4(board: Board) -> u8
     ensures { result ≡ refusal_of board }
 {
-    number(board.judge())
+    state::number_in(&board.judge())
 }
 
 // For the flash writer: the table of a board's settings, at the front of out; a refusal writes nothing.
 pub fn rivertosku_hand_out_4(board: Board, out: &mut [u8]) -> u8
     ensures { (result ≡ out_number board (length out.old)) × (out.new ≡ handed board out.old) }
 {
-    number(flash::hand_out(board, out))
+    state::number_in(&flash::hand_out(board, out))
 }
 
 // A board of a stored table; a fresh one where the table is refused.

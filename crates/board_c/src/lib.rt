@@ -1,5 +1,6 @@
 // The receiver's functions as C and Rust link them: those of the crate board, with their clauses. `rt lib` makes a static library of it, which
 // tools/built lays down as target/staticlib/libboard.a.
+// One function for each name of C, which takes no type parameter; each calls the library's of its name, since a crate is a library or an archive.
 #![tactic(auto)]
 
 ghost use Rattle.std.specs.Prelude.{◌≡◌, length};

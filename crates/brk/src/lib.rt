@@ -10,7 +10,7 @@ use sheet::{Block, Section};
 use wire::Number;
 
 #[repr(C)]
-#[derive(Clone, Copy)]
+#[derive(Clone, Copy, Default)]
 pub struct Brk {
     pub t1: u16,
     pub t2: u16,
@@ -88,17 +88,12 @@ impl Block for Brk {
     }
 
     fn is_sound(part: &[u8]) -> bool {
-        ranges::has_only_bits(3, u8::read(part, 8) as u64)
+        ranges::has_only_bits(3, u8::read(part, 8).number())
             & ((u64::read(part, 9) == 0) & (u16::read(part, 17) == 0))
     }
 
+    #[tactic(auto, unfolding(sheet::specs::Rows::least, ranges::specs::Tests::only_bits))]
     fn fresh() -> Brk {
-        Brk {
-            t1: 0,
-            t2: 0,
-            t3: 0,
-            t4: 0,
-            brakeFlags: 0,
-        }
+        Brk::default()
     }
 }

@@ -9,6 +9,7 @@ ghost use Rattle.clock.specs.Report.{reported};
 use state::{Board, Refusal};
 
 // "The wait is the later stamp minus the earlier one", more than 400. Calls and reports share it.
+#[tactic(auto, unfolding(rule::specs::Run::late, rule::specs::Run::wait))]
 pub fn is_late(later: u32, earlier: u32) -> bool
     ensures { result ≡ late later earlier }
 {

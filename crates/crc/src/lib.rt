@@ -4,8 +4,7 @@
 ghost use Rattle.std.specs.Prelude.{◌≡◌};
 ghost use Rattle.crc.specs.Crc.{crc_byte, crc_from, crc_of};
 
-// The step of one byte, the sheet's eight at once. Its callers know its promise only, so that its body can change under them. The register's 16
-// bits are in a word of 32: then nothing has to be cut off between two bytes.
+// The step of one byte, the sheet's eight at once. The register's 16 bits are in a word of 32: then nothing has to be cut off between two bytes.
 fn crc_byte(register: u32, byte: u8) -> u32
     ensures { result ≡ crc_byte register byte }
 {
@@ -27,6 +26,7 @@ pub fn crc_from(register: u16, part: &[u8]) -> u16
     for &byte in part {
         c = crc_byte(c, byte);
     }
+    // The register has 16 bits: a TryFrom would only be unwrapped.
     c as u16
 }
 

@@ -1,4 +1,3 @@
 pub mod Codec
-pub mod Tests
 pub mod Made
 pub mod One

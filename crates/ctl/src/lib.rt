@@ -2,7 +2,6 @@
 #![tactic(auto)]
 
 ghost use Rattle.std.specs.Prelude.{not, ◌&&◌, ◌≡◌, ◌+◌, ◌*◌, ◌^◌, ◌<◌, ◌≤◌, eqb, map, take, replicate, refl};
-ghost use Rattle.std.proofs.lemmas.List.Edits.{sets};
 ghost use Rattle.wire.specs.Layout.{numbers};
 ghost use Rattle.ranges.specs.Tests.{first_false};
 ghost use Rattle.sheet.specs.Sheet.{ctl_row, sctl, gctl};
@@ -39,46 +38,30 @@ fn not_both_zero(speed: u64, part: u64) -> bool
 }
 
 // An array of a data section: numbers of one width, the first at a place.
-fn run<T: Number, const N: usize>(part: &[u8], at: usize, width: usize) -> [T; N]
-    requires is { width ≡ T.width }
-    requires fits { at + width * N < 2 ^ 64 }
-    ensures { result ≡ map T.stands_for (numbers (replicate N width) at part.now) }
+fn run<T: Number, const N: usize>(part: &[u8], at: usize) -> [T; N]
+    requires fits { at + T.WIDTH * N < 2 ^ 64 }
+    ensures { result ≡ map T.stands_for (numbers (replicate N T.WIDTH) at part.now) }
 {
-    array::from_fn(|k| T::read(part, at + width * k))
-}
-
-// The elements of an array as numbers, from a place on among those of all fields.
-fn lay_run<T: Number, const N: usize>(ns: &mut [u64; 33], at: usize, run: &[T; N])
-    requires { at + N ≤ 33 }
-    ensures { ns.new ≡ sets ns.old at (map T.on_wire run.now) }
-{
-    for (k, x) in run.iter().enumerate() {
-        ns[at + k] = x.number();
-    }
+    array::from_fn(|k| T::read(part, at + T::WIDTH * k))
 }
 
 // The tests of the numbers, in the sequence of the fields.
 fn tests_of(ns: &[u64; 33]) -> [bool; 33]
     ensures { result ≡ verdicts ctl_row.fields 0 ns.now }
 {
-    let mut tests = [true; 33];
-    for k in 0..10 {
-        tests[k] = ranges::is_within(0, 100000, ns[k]);
-    }
-    tests[30] = ranges::has_only_bits(0x0F, ns[30]);
-    tests[32] = ranges::is_signed_within(255, ns[32]);
-    tests
+    array::from_fn(|k| match k {
+        0..=9 => ranges::is_within(0, 100000, ns[k]),
+        30 => ranges::has_only_bits(0x0F, ns[k]),
+        32 => ranges::is_signed_within(255, ns[k]),
+        _ => true,
+    })
 }
 
 // Whether every speed of a data section is in its range.
 fn speeds_within(part: &[u8]) -> bool
     ensures { result ≡ eqb (first_false 1 (verdicts (take 10 ctl_row.fields) 0 (numbers_in ctl_row part.now))) 0 }
 {
-    let mut all = true;
-    for k in 0..10 {
-        all &= ranges::is_within(0, 100000, u32::read(part, 4 * k) as u64);
-    }
-    all
+    (0..10).all(|k| ranges::is_within(0, 100000, u32::read(part, 4 * k).number()))
 }
 
 impl Ctl {
@@ -87,9 +70,9 @@ impl Ctl {
         ensures { result ≡ ctl_numbers self }
     {
         let mut ns = [0; 33];
-        lay_run(&mut ns, 0, &self.maxSpeed);
-        lay_run(&mut ns, 10, &self.uMaxSpeed);
-        lay_run(&mut ns, 20, &self.timeout);
+        ns[..10].copy_from_slice(&self.maxSpeed.map(u64::from));
+        ns[10..20].copy_from_slice(&self.uMaxSpeed.map(u64::from));
+        ns[20..29].copy_from_slice(&self.timeout.map(u64::from));
         ns[29] = self.maxClickTime.number();
         ns[30] = self.flags.number();
         ns[31] = self.deltaPosition.number();
@@ -107,9 +90,9 @@ impl Section for Ctl {
 
     fn decode(part: &[u8]) -> Ctl {
         Ctl {
-            maxSpeed: run(part, 0, 4),
-            uMaxSpeed: run(part, 40, 1),
-            timeout: run(part, 50, 2),
+            maxSpeed: run(part, 0),
+            uMaxSpeed: run(part, 40),
+            timeout: run(part, 50),
             maxClickTime: Number::read(part, 68),
             flags: Number::read(part, 70),
             deltaPosition: Number::read(part, 72),
@@ -156,9 +139,9 @@ impl Block for Ctl {
 
     fn is_sound(part: &[u8]) -> bool {
         speeds_within(part)
-            & (ranges::has_only_bits(0x0F, u16::read(part, 70) as u64)
-                & (ranges::is_signed_within(255, u16::read(part, 76) as u64)
-                    & (not_both_zero(u32::read(part, 0) as u64, u8::read(part, 40) as u64)
+            & (ranges::has_only_bits(0x0F, u16::read(part, 70).number())
+                & (ranges::is_signed_within(255, u16::read(part, 76).number())
+                    & (not_both_zero(u32::read(part, 0).number(), u8::read(part, 40).number())
                         & ((u64::read(part, 78) == 0) & (u8::read(part, 86) == 0)))))
     }
 

@@ -10,7 +10,7 @@ use sheet::{Block, Section};
 use wire::Number;
 
 #[repr(C)]
-#[derive(Clone, Copy)]
+#[derive(Clone, Copy, Default)]
 pub struct Eds {
     pub borderFlags: u8,
     pub enderFlags: u8,
@@ -98,21 +98,15 @@ impl Block for Eds {
     }
 
     fn is_sound(part: &[u8]) -> bool {
-        ranges::has_only_bits(15, u8::read(part, 0) as u64)
-            & (ranges::has_only_bits(7, u8::read(part, 1) as u64)
-                & (ranges::is_signed_within(255, u16::read(part, 6) as u64)
-                    & (ranges::is_signed_within(255, u16::read(part, 12) as u64)
+        ranges::has_only_bits(15, u8::read(part, 0).number())
+            & (ranges::has_only_bits(7, u8::read(part, 1).number())
+                & (ranges::is_signed_within(255, u16::read(part, 6).number())
+                    & (ranges::is_signed_within(255, u16::read(part, 12).number())
                         & ((u32::read(part, 14) == 0) & (u16::read(part, 18) == 0)))))
     }
 
+    #[tactic(auto, unfolding(sheet::specs::Rows::least, ranges::specs::Tests::signed_within, ranges::specs::Tests::only_bits))]
     fn fresh() -> Eds {
-        Eds {
-            borderFlags: 0,
-            enderFlags: 0,
-            leftBorder: 0,
-            uLeftBorder: 0,
-            rightBorder: 0,
-            uRightBorder: 0,
-        }
+        Eds::default()
     }
 }

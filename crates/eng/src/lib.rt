@@ -106,14 +106,15 @@ impl Block for Eng {
     }
 
     fn is_sound(part: &[u8]) -> bool {
-        ranges::is_within(15, 8000, u16::read(part, 2) as u64)
-            & (ranges::is_within(1, 100000, u32::read(part, 4) as u64)
-                & (ranges::has_only_bits(255, u16::read(part, 9) as u64)
-                    & (ranges::is_within(1, 9, u8::read(part, 13) as u64)
-                        & (ranges::is_within(1, 65535, u16::read(part, 14) as u64)
+        ranges::is_within(15, 8000, u16::read(part, 2).number())
+            & (ranges::is_within(1, 100000, u32::read(part, 4).number())
+                & (ranges::has_only_bits(255, u16::read(part, 9).number())
+                    & (ranges::is_within(1, 9, u8::read(part, 13).number())
+                        & (ranges::is_within(1, 65535, u16::read(part, 14).number())
                             & ((u64::read(part, 16) == 0) & (u32::read(part, 24) == 0))))))
     }
 
+    #[tactic(auto, unfolding(sheet::specs::Rows::least, ranges::specs::Tests::within, ranges::specs::Tests::only_bits))]
     fn fresh() -> Eng {
         Eng {
             nomVoltage: 0,

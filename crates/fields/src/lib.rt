@@ -1,4 +1,4 @@
-// The fields of one of the host's blocks, whichever it is.
+// The fields of one of the host's blocks, whichever it is: by matches, which have an arm for each block there is.
 #![tactic(auto)]
 
 ghost use Rattle.std.specs.Prelude.{◌≡◌};

@@ -2,12 +2,11 @@
 use mathlib.Core.Path.{◌≡◌, refl, sym, ap, ◌∙◌}
 use mathlib.Core.Bool.{Bool, true, false}
 use mathlib.Core.List.{List, [], ◌++◌}
-use Prim.Native.Nat.{ℕ, ◌+◌, ◌≤◌, ◌<◌}
+use Prim.Native.Nat.{ℕ, ◌+◌, ◌≤◌}
 use native.Mathlib.Omega.{arith}
-use lib.ListN.{length, drop, replicate}
-use lib.Seq.{sets, sets-eq, length-sets, take_all}
-use borrow.Author.Tests.{lt-ltb, le-ltb, eq-eqb, ne_eqb}
-use Rattle.wire.proofs.Stores.{front_stored}
+use lib.ListN.{length, drop}
+use lib.Seq.{sets, sets-eq}
+use borrow.Author.Tests.{le-ltb, eq-eqb, ne_eqb}
 use Rattle.sheet.specs.Sheet.{sheet}
 use Rattle.table.specs.Places.{whole_of}
 use Rattle.table.specs.Table.{Good, all_good}
@@ -33,9 +32,6 @@ settings_good b z = (sound_memory_lem (state_of b) (refusal_sound b z)).good
 module _ (b : Board) (out : List ℕ) where
   abbrev Promised : ℕ → List ℕ → Type 0
   Promised n left = (n ≡ out_number b (length out)) × (left ≡ handed b out)
-
-  pub out_short : length out < whole_of sheet → Promised 2 out
-  out_short h = rw (lt-ltb (length out) (whole_of sheet) h) (refl, refl)
 
   module _ (room : whole_of sheet ≤ length out) where
     pub out_handed : refusal_of b ≡ 0 → Promised 0 (sets out 0 b.memory.settings.bytes)
@@ -84,9 +80,3 @@ module _ (t : List ℕ) where
 
     pub back_passed : refusal_of with ≡ 0 → record { number = 0; board = with } ≡ taken_back t
     back_passed z = sym (back_taken (sym (with_sound (record { bytes = t })) ∙ refusal_sound with z))
-
-    -- copied over zeros, it is itself
-    pub copied : sets (replicate (whole_of sheet) 0) 0 t ≡ t
-    copied =
-        let z = replicate {A = ℕ} (whole_of sheet) 0 in
-        sym (take_all (whole_of sheet) (sets z 0 t) (omega (arith, length-sets z 0 t))) ∙ front_stored z t (whole_of sheet) l (omega arith)

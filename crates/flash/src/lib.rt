@@ -12,6 +12,7 @@ use table::Table;
 use unit::Memory;
 
 // The table of a board's settings, written to the front of out; a refusal writes nothing.
+#[tactic(auto, using(state::proofs::Refused::judged_ok, crate::proofs::Cases::out_handed))]
 pub fn hand_out(board: Board, out: &mut [u8]) -> Result<(), Refusal>
     ensures { (number_in result ≡ out_number board (length out.old)) × (out.new ≡ handed board out.old) }
 {
@@ -27,16 +28,12 @@ pub fn hand_out(board: Board, out: &mut [u8]) -> Result<(), Refusal>
 pub fn take_back(bytes: &[u8]) -> Result<Board, Refusal>
     ensures { report_in (board_of fresh_state) result ≡ taken_back bytes.now }
 {
-    if bytes.len() != table::SIZE {
+    let Ok(bytes) = <[u8; table::SIZE]>::try_from(bytes) else {
         return Err(Refusal::Length);
-    }
-    let fresh = Board::fresh();
-    let mut settings = Table {
-        bytes: [0u8; table::SIZE],
     };
-    wire::copy(&mut settings.bytes, 0, bytes);
+    let fresh = Board::fresh();
     let memory = Memory {
-        settings,
+        settings: Table { bytes },
         ..fresh.memory
     };
     let taken = Board { memory, ..fresh };

@@ -52,15 +52,6 @@ module _ (name : ℕ) (d : List ℕ) where
 
 -- ---- a frame of n bytes at the front of more
 
-pub front_data : (s : List ℕ) (n : ℕ) → 6 ≤ n → n ≤ length s → take (n - 2 - 4) (drop 4 s) ≡ data_in (take n s)
-front_data s n a l =
-    let e : 4 + (n - 4) ≡ n = omega arith in
-    let m : n - 2 - 4 ≡ n - 6 = omega arith in
-    let split : take n s ≡ take 4 s ++ take (n - 4) (drop 4 s) = ap (λ (k : ℕ). take k s) (sym e) ∙ take-add 4 (n - 4) s in
-    let behind : drop 4 (take n s) ≡ take (n - 4) (drop 4 s) =
-    ap (drop 4) split ∙ drop_at (take 4 s) (take (n - 4) (drop 4 s)) 4 (length-take-le 4 s (omega arith)) in
-    rw (m, length-take-le n s l, behind) (sym (take-take (n - 6) (n - 4) (drop 4 s) (omega arith)))
-
 -- an intact frame has a name and a CRC
 pub intact_long : (u : List ℕ) → intact u ≡ true → 6 ≤ length u
 unfolding intact

@@ -8,6 +8,7 @@ ghost use Rattle.frame.specs.Frame.{framed, data_in, intact};
 use wire::Number;
 
 // Name, data section and CRC, one behind the other from the front on; what does not fit is not stored.
+#[tactic(auto, using(crate::proofs::Frames::frame_stored))]
 pub fn put(out: &mut [u8], name: u32, section: &[u8])
     ensures { out.new ≡ sets out.old 0 (framed name section.now) }
 {
@@ -17,6 +18,7 @@ pub fn put(out: &mut [u8], name: u32, section: &[u8])
 }
 
 // Whether the CRC in a frame's last two bytes is that of its data section.
+#[tactic(auto, unfolding(crate::specs::Frame::intact))]
 pub fn is_intact(frame: &[u8]) -> bool
     ensures { result ≡ intact frame.now }
 {

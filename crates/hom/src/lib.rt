@@ -10,7 +10,7 @@ use sheet::{Block, Section};
 use wire::Number;
 
 #[repr(C)]
-#[derive(Clone, Copy)]
+#[derive(Clone, Copy, Default)]
 pub struct Hom {
     pub fastHome: u32,
     pub uFastHome: u8,
@@ -102,22 +102,15 @@ impl Block for Hom {
     }
 
     fn is_sound(part: &[u8]) -> bool {
-        ranges::is_within(0, 100000, u32::read(part, 0) as u64)
-            & (ranges::is_within(0, 100000, u32::read(part, 5) as u64)
-                & (ranges::is_signed_within(255, u16::read(part, 14) as u64)
-                    & (ranges::has_only_bits(511, u16::read(part, 16) as u64)
+        ranges::is_within(0, 100000, u32::read(part, 0).number())
+            & (ranges::is_within(0, 100000, u32::read(part, 5).number())
+                & (ranges::is_signed_within(255, u16::read(part, 14).number())
+                    & (ranges::has_only_bits(511, u16::read(part, 16).number())
                         & ((u64::read(part, 18) == 0) & (u8::read(part, 26) == 0)))))
     }
 
+    #[tactic(auto, unfolding(sheet::specs::Rows::least, ranges::specs::Tests::within, ranges::specs::Tests::signed_within, ranges::specs::Tests::only_bits))]
     fn fresh() -> Hom {
-        Hom {
-            fastHome: 0,
-            uFastHome: 0,
-            slowHome: 0,
-            uSlowHome: 0,
-            homeDelta: 0,
-            uHomeDelta: 0,
-            homeFlags: 0,
-        }
+        Hom::default()
     }
 }

@@ -34,6 +34,3 @@ set_total Pid = refl
 -- a head that is the block's own
 pub head_total : (b : Block) (h : Head) → h ≡ head_of (set_of b) (get_of b) → h.total ≡ total (row_of b)
 head_total b h e = ap (λ (x : Head). x.total) e ∙ set_total b
-
-pub head_long : (b : Block) (h : Head) → h ≡ head_of (set_of b) (get_of b) → 6 ≤ h.total
-head_long b h e = omega (arith, head_total b h e, total_least b)

@@ -74,7 +74,7 @@ const ORDERS: [(u32, Order); 7] = [
 
 // Blocks and orders are looked up alike, each in its own table: one function for both would be told which, by each caller.
 impl Block {
-    // The block that has this number.
+    // The block that has this number. No TryFrom: its error would say no more than None.
     pub fn at(number: usize) -> Option<Block>
         ensures { result ≡ block_at number }
     {
@@ -119,6 +119,7 @@ impl Block {
     }
 }
 
+// By hand with `as`, since nothing derives it.
 impl From<Block> for u8 {
     ghost from_gives = { λ block number. number ≡ block_number block };
 
@@ -128,7 +129,7 @@ impl From<Block> for u8 {
 }
 
 impl Order {
-    // The order that has this number.
+    // The order that has this number. No TryFrom, as for Block.
     pub fn at(number: usize) -> Option<Order>
         ensures { result ≡ order_at number }
     {
@@ -145,6 +146,7 @@ impl Order {
     }
 
     // The order that has this name.
+    #[tactic(auto, using(crate::proofs::Numbered::orders_by))]
     pub fn named(name: u32) -> Option<Order>
         ensures { result ≡ order_at (order_named name) }
     {
@@ -166,6 +168,7 @@ impl Order {
     }
 }
 
+// By hand with `as`, as Block's.
 impl From<Order> for u8 {
     ghost from_gives = { λ order number. number ≡ order_number order };
 

@@ -10,7 +10,7 @@ use sheet::{Block, Section};
 use wire::Number;
 
 #[repr(C)]
-#[derive(Clone, Copy)]
+#[derive(Clone, Copy, Default)]
 pub struct Joy {
     pub joyLowEnd: u16,
     pub joyCenter: u16,
@@ -106,26 +106,20 @@ impl Block for Joy {
     }
 
     fn is_sound(part: &[u8]) -> bool {
-        let low = u16::read(part, 0) as u64;
-        let centre = u16::read(part, 2) as u64;
-        let high = u16::read(part, 4) as u64;
+        let low = u16::read(part, 0).number();
+        let centre = u16::read(part, 2).number();
+        let high = u16::read(part, 4).number();
         ranges::is_within(0, 10000, low)
             & (ranges::is_within(0, 10000, centre)
                 & (ranges::is_within(0, 10000, high)
-                    & (ranges::has_only_bits(0x01, u8::read(part, 8) as u64)
+                    & (ranges::has_only_bits(0x01, u8::read(part, 8).number())
                         & (in_sequence(low, centre, high)
                             & ((u32::read(part, 9) == 0)
                                 & ((u16::read(part, 13) == 0) & (u8::read(part, 15) == 0)))))))
     }
 
+    #[tactic(auto, unfolding(sheet::specs::Rows::least, ranges::specs::Tests::within, ranges::specs::Tests::only_bits))]
     fn fresh() -> Joy {
-        Joy {
-            joyLowEnd: 0,
-            joyCenter: 0,
-            joyHighEnd: 0,
-            expFactor: 0,
-            deadZone: 0,
-            joyFlags: 0,
-        }
+        Joy::default()
     }
 }

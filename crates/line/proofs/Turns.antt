@@ -1,12 +1,12 @@
 -- The turns of the loop over a line, each a law over plain variables: by the rule's laws of units. Assumes nothing.
 use mathlib.Core.Path.{◌≡◌, refl, ap, sym, ◌∙◌}
+use mathlib.Core.Bool.{cond, not}
 use mathlib.Core.List.{List, [], ◌∷◌, ◌++◌}
 use Prim.Native.Nat.{ℕ, ◌+◌, ◌-◌, ◌≤◌, ◌<◌}
 use native.Mathlib.Nat.{sub-zero, add-zero}
 use native.Mathlib.Omega.{arith}
 use lib.ListN.{length, get_or, take, drop, length-append, length-drop, take-append-drop, drop_of_length-le}
 use lib.Seq.{sets, length-take-le, take_all, get_or-drop, drop-drop}
-use borrow.Author.Tests.{eq-eqb, ne_eqb}
 use borrow.Rule.Slice.PartMut.{mid_of, put_mid}
 use Rattle.wire.specs.Numbers.{le_at}
 use Rattle.wire.proofs.Numbers.{le_at_drop}
@@ -16,7 +16,8 @@ use Rattle.rule.specs.Rule.{Said, state_at}
 use Rattle.rule.specs.Calls.{Called, accept}
 use Rattle.rule.proofs.Loop.{later, over, later_start, later_end}
 use Rattle.rule.proofs.Units.{unit_open, unit_full, unit_turn, unit_stop}
-use Rattle.orders.specs.Orders.{order_number, given}
+use Rattle.orders.specs.Orders.{given}
+use Rattle.orders.specs.contracts.OrderPartialEq.TheImpl as same
 use Rattle.names.specs.Names.{kind_from, kind_at, span, replied, need}
 use Rattle.orders.specs.declared.Order.{Order}
 use Rattle.orders.specs.declared.Order.TheVariants.{Nothing}
@@ -65,6 +66,10 @@ ran_over : (c : Called Order Memory) (k w t : ℕ) (out before after u : List �
     → c ≡ over k out os (state_at m u t) → length out ≡ w → o ≡ order_of os → after ≡ out ++ drop w before
     → r ≡ holding m o t u k w → Returned ran c before r after
 ran_over c k w t out before after u os m o r e l p f g = rw e (record { result = g ∙ (λ i. holding m (p i) t u k (sym l i)); reply = rw l f })
+
+-- the orders that an order of an answer stands for, by the code's test of it
+pub tells : (o : Order) → given o ≡ cond (not (same.ghosts.eq o Nothing)) (o ∷ []) []
+tells o = grind arith
 
 pub starts : (m : Memory) (t : ℕ) (line reply : List ℕ)
     → Inv (accept protocol (state_at m [] t) t (length reply) line) t line reply reply m 0 0
@@ -167,10 +172,10 @@ module _ (c : Called Order Memory) (t : ℕ) (line reply₀ reply : List ℕ) (m
           back_long = wrote.long ∙ inv.long
 
           -- it gave none, and the loop goes on
-          pub goes : order_number next.order ≡ 0 → Inv c t line reply₀ back next.memory (i + n) (w + due)
+          pub goes : given next.order ≡ [] → Inv c t line reply₀ back next.memory (i + n) (w + due)
           goes h =
               let k : length reply₀ - w - out ≡ length reply₀ - (w + out) = omega arith in
-              let os : done.orders ≡ [] = sym orders_are ∙ rw (eq-eqb (order_number next.order) 0 h) in
+              let os : done.orders ≡ [] = sym orders_are ∙ h in
               rw (← due_is)
               (record {
                 same =
@@ -184,11 +189,11 @@ module _ (c : Called Order Memory) (t : ℕ) (line reply₀ reply : List ℕ) (m
               })
 
           -- it gave one, and the call is over
-          pub gives : (order_number next.order ≡ 0 → ⊥) → (r : Call)
+          pub gives : given next.order ≡ next.order ∷ [] → (r : Call)
               → r ≡ holding next.memory next.order t [] (i + n) (w + due) → Returned ran c reply₀ r back
           gives h r f =
               let o = next.order in
-              let os : done.orders ≡ o ∷ [] = sym orders_are ∙ rw (ne_eqb (order_number o) 0 h) in
+              let os : done.orders ≡ o ∷ [] = sym orders_are ∙ h in
               ran_over c (i + n) (w + out) t (take w reply ++ done.reply) reply₀ back [] done.orders next.memory o r
               (inv.same
               ∙ unit_stop protocol need_law i (take w reply) m t (length reply₀ - w) d n is there (omega (arith, inv.long, due_is)) o [] os

@@ -1,4 +1,4 @@
-// A line: unit after unit is taken off its front.
+// A line: unit after unit is taken off its front. Table, held and reply are passed on apart, as receiver has them.
 #![tactic(auto)]
 
 ghost use Rattle.std.specs.Prelude.{[], List, ◌≡◌, ℕ, ◌≤◌, length};
@@ -32,7 +32,7 @@ fn over(
 {
     let count = left.len();
     wire::copy(held, 0, left);
-    wire::put(held, count, sheet::FRAME - count, 0);
+    held[count..].fill(0);
     let rest = Rest {
         notes: slate.notes,
         position: slate.position,
@@ -78,7 +78,7 @@ pub fn take_units(
         cur = judged.slate;
         i = e;
         w += due;
-        if judged.order.number() != 0 {
+        if judged.order != Order::Nothing {
             return over(held, cur, judged.order, stamp, &[], i, w);
         }
     }

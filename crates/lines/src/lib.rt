@@ -1,4 +1,5 @@
 // The lines of the bench, and an order as they show it. A byte past the end of a buffer is not written.
+// Buffer and place are apart, as in text. A usize is handed on `as u64`: u64 has no From of it, and a TryFrom would only be unwrapped.
 #![tactic(auto)]
 
 ghost use Rattle.text.specs.Texts.{Written};

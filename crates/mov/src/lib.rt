@@ -98,13 +98,14 @@ impl Block for Mov {
     }
 
     fn is_sound(part: &[u8]) -> bool {
-        ranges::is_within(0, 100000, u32::read(part, 0) as u64)
-            & (ranges::is_within(1, 65535, u16::read(part, 5) as u64)
-                & (ranges::is_within(1, 65535, u16::read(part, 7) as u64)
-                    & (ranges::is_within(0, 100000, u32::read(part, 9) as u64)
+        ranges::is_within(0, 100000, u32::read(part, 0).number())
+            & (ranges::is_within(1, 65535, u16::read(part, 5).number())
+                & (ranges::is_within(1, 65535, u16::read(part, 7).number())
+                    & (ranges::is_within(0, 100000, u32::read(part, 9).number())
                         & ((u64::read(part, 14) == 0) & (u16::read(part, 22) == 0)))))
     }
 
+    #[tactic(auto, unfolding(sheet::specs::Rows::least, ranges::specs::Tests::within))]
     fn fresh() -> Mov {
         Mov {
             speed: 0,

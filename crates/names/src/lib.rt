@@ -19,7 +19,8 @@ use pwr::Pwr;
 use sheet::{Block, names};
 
 // A zero, a set or a get, an order, move or movr, spos, gpos, the command zero, or a name that nobody knows.
-// Sets, gets and moves hold the sheet's number of their block, and no enum of blocks: the table is asked for any number, and a refusal records it.
+// Sets, gets and moves hold the sheet's number of their block, and no enum of blocks: the table and travel's `answer_move` promise an answer to any
+// number, and a refusal records it.
 #[derive(Clone, Copy)]
 pub enum Kind {
     Zero,
@@ -33,7 +34,7 @@ pub enum Kind {
     Unknown,
 }
 
-// The tables of sheet 01: each name with the number of its block or its order, and each block with the total length of its frame.
+// The tables of the sheets: each name with the number of its block or of its order, and each block with the total length of its frame.
 const SETS: [(u32, usize); 9] = [
     (Mov::SET, 1),
     (Eng::SET, 2),
@@ -58,7 +59,7 @@ const GETS: [(u32, usize); 9] = [
     (Joy::GET, 12),
 ];
 
-// By 01's numbers, as the promise finds them; `Order::at` gives the order of one.
+// By 01's numbers: `Order::at` says which order has which, so no second table does.
 const ORDERS: [(u32, usize); 7] = [
     (names::STOP, 1),
     (names::SSTP, 2),
@@ -91,7 +92,7 @@ pub fn total_of(number: usize) -> usize
 }
 
 impl Kind {
-    // What a name says that its unit is, where it is none of 01's.
+    // What a name says that its unit is, where it is no set, no get and no named order.
     #[tactic(auto, unfolding(crate::specs::Names::position_kind))]
     fn of_position(name: u32) -> Kind
         ensures { result ≡ position_kind name }

@@ -1,5 +1,5 @@
 // The host's writer and reader as C and Rust link them, by optimiser_c: flat, a block or an order by its number of 01.
-// The names end in the number of the structs' layout: a header of another layout asks for other names, and does not link.
+// The names end in the number of the structs' layout: a header of another layout asks for other names, and does not link. One function for each name.
 #![tactic(auto)]
 
 ghost use Rattle.std.specs.Prelude.{◌≡◌, option_to_list};
@@ -61,14 +61,14 @@ fn write(asked: Option<Request>, out: &mut [u8]) -> FlatWritten
 pub fn rivertosku_write_get_1(block: u8, out: &mut [u8]) -> FlatWritten
     ensures { FlatWrites (get_asked (block_at block)) out.old result out.new }
 {
-    write(Block::at(block as usize).map(Request::Get), out)
+    write(Block::at(usize::from(block)).map(Request::Get), out)
 }
 
 // The frame of a set of the block of this number, with its fields among the blocks.
 pub fn rivertosku_write_set_1(block: u8, blocks: Blocks, out: &mut [u8]) -> FlatWritten
     ensures { FlatWrites (set_asked blocks (block_at block)) out.old result out.new }
 {
-    let asked = Block::at(block as usize).map(|known| Request::Set(blocks.fields_at(known)));
+    let asked = Block::at(usize::from(block)).map(|known| Request::Set(blocks.fields_at(known)));
     write(asked, out)
 }
 
@@ -76,7 +76,7 @@ pub fn rivertosku_write_set_1(block: u8, blocks: Blocks, out: &mut [u8]) -> Flat
 pub fn rivertosku_write_order_1(order: u8, out: &mut [u8]) -> FlatWritten
     ensures { FlatWrites (order_asked (order_at order)) out.old result out.new }
 {
-    write(Order::at(order as usize).map(Request::Give), out)
+    write(Order::at(usize::from(order)).map(Request::Give), out)
 }
 
 // An answer without data.

@@ -1,4 +1,5 @@
 // The host's writer and reader as C and Rust link them: the functions of the crate optimiser, with their clauses (target/staticlib/liboptimiser.a).
+// One function for each name of C, which takes no type parameter; each calls the library's of its name, since a crate is a library or an archive.
 #![tactic(auto)]
 
 ghost use Rattle.std.specs.Prelude.{◌≡◌};

@@ -22,7 +22,7 @@ pub enum Order {
 }
 
 impl Order {
-    // The order of a number; 0 and any other number give none. A match and no index: an array that is indexed is laid out at every call.
+    // The order of a number; 0 and any other number give none, so no TryFrom. A match and no index: an array that is indexed is laid out at every call.
     pub fn at(number: usize) -> Order
         ensures { result ≡ order_at number }
     {
@@ -38,7 +38,7 @@ impl Order {
         }
     }
 
-    // 01's number of an order, 0 for none.
+    // 01's number of an order, 0 for none, as C gets it: a method and no From, as `steps` and `microsteps` are, since C gets all three.
     pub fn number(self) -> u8
         ensures { result ≡ order_number self }
     {

@@ -10,7 +10,7 @@ use sheet::{Block, Section};
 use wire::Number;
 
 #[repr(C)]
-#[derive(Clone, Copy)]
+#[derive(Clone, Copy, Default)]
 pub struct Pid {
     pub kpU: u16,
     pub kiU: u16,
@@ -98,21 +98,15 @@ impl Block for Pid {
     }
 
     fn is_sound(part: &[u8]) -> bool {
-        ranges::is_finite(u32::read(part, 6) as u64)
-            & (ranges::is_finite(u32::read(part, 10) as u64)
-                & (ranges::is_finite(u32::read(part, 14) as u64)
+        ranges::is_finite(u32::read(part, 6).number())
+            & (ranges::is_finite(u32::read(part, 10).number())
+                & (ranges::is_finite(u32::read(part, 14).number())
                     & ((u64::read(part, 18) == 0)
                         & ((u64::read(part, 26) == 0) & (u64::read(part, 34) == 0)))))
     }
 
+    #[tactic(auto, unfolding(sheet::specs::Rows::least, ranges::specs::Tests::finite))]
     fn fresh() -> Pid {
-        Pid {
-            kpU: 0,
-            kiU: 0,
-            kdU: 0,
-            kpf: 0.0,
-            kif: 0.0,
-            kdf: 0.0,
-        }
+        Pid::default()
     }
 }

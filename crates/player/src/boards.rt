@@ -1,10 +1,11 @@
 // The board: made in any state, called, told the time and the drive's position, its settings handed out and taken back, shown. No other file reads or
-// writes its fields. What is printed goes through functions that hold no board: a statement beside a board makes a long proof.
+// writes its fields.
+// A refusal is printed as its number in 01 or 02, 0 for none, a call's with zeros beside it: the stored output has this form.
 use crate::print;
 use orders::Order;
 use position::Position;
 use sheet::Section;
-use state::{Board, Refusal};
+use state::{Board, Done, Refusal};
 use std::io;
 use std::io::Write;
 use table::Table;
@@ -16,6 +17,7 @@ pub fn put(mut board: Board, place: usize, bytes: &[u8]) -> Board {
     board
 }
 
+// `as usize` in these three, since usize has no From of u32, and a TryFrom would only be unwrapped.
 fn notes_in(numbers: &[u8]) -> Notes {
     Notes {
         flags: u32::read(numbers, 0) as usize,
@@ -24,6 +26,7 @@ fn notes_in(numbers: &[u8]) -> Notes {
     }
 }
 
+// note and place set one field each, unchecked: one setter for both would take a closure, and be no plainer.
 pub fn note(mut board: Board, numbers: &[u8]) -> Board {
     board.memory.notes = notes_in(numbers);
     board
@@ -60,7 +63,7 @@ fn show_position(out: &mut impl Write, position: Position) -> io::Result<()> {
 fn show_line(out: &mut impl Write, held: &[u8], count: usize, stamp: u32) -> io::Result<()> {
     print::number(out, count)?;
     print::beginning(out, held, count)?;
-    print::number(out, stamp as usize)?;
+    write!(out, " {stamp}")?;
     print::say(out, b"\n")
 }
 
@@ -103,30 +106,7 @@ fn show_call(
     show_order(out, order)
 }
 
-fn call_in(
-    out: &mut impl Write,
-    board: Board,
-    extent: usize,
-    room: usize,
-    stamp: u32,
-    piece: &[u8],
-    buffer: &mut [u8],
-) -> io::Result<Board> {
-    let size = room.min(buffer.len());
-    match receiver::receive(board, piece, stamp, &mut buffer[..size]) {
-        Ok(done) => {
-            show_call(out, 0, done.taken, done.written, done.order)?;
-            show_reply(out, buffer, done.written, extent)?;
-            show_rest(out, done.board)
-        }
-        Err(refusal) => {
-            show_call(out, u8::from(refusal), 0, 0, Order::Nothing)?;
-            show_reply(out, buffer, 0, extent)?;
-            show_rest(out, board)
-        }
-    }
-}
-
+// extent, room and stamp are a case's number, room and stamp: this file knows no format. A refused call leaves the board as it was.
 pub fn call(
     out: &mut impl Write,
     board: Board,
@@ -136,7 +116,18 @@ pub fn call(
     piece: &[u8],
 ) -> io::Result<Board> {
     let mut buffer = print::BUFFER;
-    call_in(out, board, extent, room, stamp, piece, &mut buffer)
+    let size = room.min(buffer.len());
+    let answer = receiver::receive(board, piece, stamp, &mut buffer[..size]);
+    let number = state::number_in(&answer);
+    let done = answer.unwrap_or(Done {
+        board,
+        taken: 0,
+        written: 0,
+        order: Order::Nothing,
+    });
+    show_call(out, number, done.taken, done.written, done.order)?;
+    show_reply(out, &buffer, done.written, extent)?;
+    show_rest(out, done.board)
 }
 
 // A refused report leaves the board as it was.
@@ -145,16 +136,8 @@ fn show_report(
     board: Board,
     answer: Result<Board, Refusal>,
 ) -> io::Result<Board> {
-    match answer {
-        Ok(next) => {
-            print::number(out, 0)?;
-            show_rest(out, next)
-        }
-        Err(refusal) => {
-            print::number(out, usize::from(u8::from(refusal)))?;
-            show_rest(out, board)
-        }
-    }
+    print::number(out, usize::from(state::number_in(&answer)))?;
+    show_rest(out, answer.unwrap_or(board))
 }
 
 pub fn report_time(out: &mut impl Write, board: Board, now: u32) -> io::Result<Board> {
@@ -167,28 +150,16 @@ pub fn report_position(out: &mut impl Write, board: Board, numbers: &[u8]) -> io
 }
 
 fn show_buffer(out: &mut impl Write, number: u8, buffer: &[u8], room: usize) -> io::Result<()> {
-    print::number(out, number as usize)?;
+    print::number(out, usize::from(number))?;
     print::beginning(out, buffer, room)?;
     print::say(out, b"\n")
 }
 
-fn hand_out_in(
-    out: &mut impl Write,
-    board: Board,
-    room: usize,
-    buffer: &mut [u8],
-) -> io::Result<()> {
-    let size = room.min(buffer.len());
-    let number = match flash::hand_out(board, &mut buffer[..size]) {
-        Ok(()) => 0,
-        Err(refusal) => u8::from(refusal),
-    };
-    show_buffer(out, number, buffer, size)
-}
-
 pub fn hand_out(out: &mut impl Write, board: Board, room: usize) -> io::Result<Board> {
     let mut buffer = print::BUFFER;
-    hand_out_in(out, board, room, &mut buffer)?;
+    let size = room.min(buffer.len());
+    let number = state::number_in(&flash::hand_out(board, &mut buffer[..size]));
+    show_buffer(out, number, &buffer, size)?;
     Ok(board)
 }
 

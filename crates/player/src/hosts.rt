@@ -1,4 +1,5 @@
 // The host: a request written, an answer read. No other file names what the host has.
+// A refusal is printed as 02's number, 0 for none, with zeros beside it: the stored output has this form.
 use crate::print;
 use answer::{Answer, Reading, Unread};
 use fields::Fields;
@@ -6,6 +7,7 @@ use host::{Block, Order};
 use request::{Refused, Request};
 use std::io;
 use std::io::Write;
+use wire::Number;
 
 fn verdict(out: &mut impl Write, number: usize, length: usize) -> io::Result<()> {
     print::number(out, number)?;
@@ -19,22 +21,13 @@ fn show_written(out: &mut impl Write, written: Result<usize, Refused>) -> io::Re
     }
 }
 
-fn write_in(
-    out: &mut impl Write,
-    asked: Request,
-    room: usize,
-    buffer: &mut [u8],
-) -> io::Result<()> {
+fn write(out: &mut impl Write, asked: Request, room: usize) -> io::Result<()> {
+    let mut buffer = print::BUFFER;
     let size = room.min(buffer.len());
     let written = request::write(asked, &mut buffer[..size]);
     show_written(out, written)?;
-    print::beginning(out, buffer, size)?;
+    print::beginning(out, &buffer, size)?;
     print::say(out, b"\n")
-}
-
-fn write(out: &mut impl Write, asked: Request, room: usize) -> io::Result<()> {
-    let mut buffer = print::BUFFER;
-    write_in(out, asked, room, &mut buffer)
 }
 
 // A number that no block or order has.
@@ -42,6 +35,7 @@ fn nobody(out: &mut impl Write) -> io::Result<()> {
     print::say(out, b"no such number\n")
 }
 
+// One function for each kind of request: one for all would be told which.
 pub fn write_get(out: &mut impl Write, number: usize, room: usize) -> io::Result<()> {
     let Some(block) = Block::at(number) else {
         return nobody(out);
@@ -71,7 +65,7 @@ pub fn write_order(out: &mut impl Write, number: usize, room: usize) -> io::Resu
 // Four letters, behind a space.
 fn letters(out: &mut impl Write, name: u32) -> io::Result<()> {
     let mut text = [0u8; 4];
-    wire::put(&mut text, 0, 4, name as u64);
+    wire::put(&mut text, 0, 4, name.number());
     print::say(out, b" ")?;
     print::say(out, &text)
 }

@@ -56,10 +56,10 @@ struct Head {
 fn head_of(case: &[u8]) -> Head {
     Head {
         operation: u8::read(case, 0),
-        number: u8::read(case, 1) as usize,
-        room: u16::read(case, 2) as usize,
+        number: usize::from(u8::read(case, 1)),
+        room: usize::from(u16::read(case, 2)),
         stamp: u32::read(case, 4),
-        count: u16::read(case, 8) as usize,
+        count: usize::from(u16::read(case, 8)),
     }
 }
 
@@ -118,25 +118,17 @@ fn read_in<R: Read>(input: &mut R, asked: usize, buffer: &mut [u8]) -> io::Resul
     streams::read_full(input, &mut buffer[..room])
 }
 
-fn step_in(
-    input: &mut impl Read,
-    out: &mut impl Write,
-    head: Head,
-    board: Board,
-    buffer: &mut [u8],
-) -> io::Result<Board> {
-    let count = read_in(input, head.count, buffer)?;
-    step(out, head, board, &buffer[..count])
-}
-
+// The case that begins so, its bytes read into a buffer; the next board.
 fn step_behind(
     input: &mut impl Read,
     out: &mut impl Write,
     start: &[u8],
     board: Board,
 ) -> io::Result<Board> {
+    let head = head_of(start);
     let mut bytes = print::BUFFER;
-    step_in(input, out, head_of(start), board, &mut bytes)
+    let count = read_in(input, head.count, &mut bytes)?;
+    step(out, head, board, &bytes[..count])
 }
 
 // Case after case, until there is none. The number bounds them, since nobody knows how long the input is.

@@ -12,15 +12,15 @@ use sheet::Section;
 use wire::Number;
 
 #[repr(C)]
-#[derive(Clone, Copy, PartialEq, Eq)]
+#[derive(Clone, Copy, PartialEq, Eq, Default)]
 pub struct Steps(pub i32);
 
 #[repr(C)]
-#[derive(Clone, Copy, PartialEq, Eq)]
+#[derive(Clone, Copy, PartialEq, Eq, Default)]
 pub struct Microsteps(pub i16);
 
 #[repr(C)]
-#[derive(Clone, Copy, PartialEq, Eq)]
+#[derive(Clone, Copy, PartialEq, Eq, Default)]
 pub struct Count(pub i64);
 
 // What move and movr carry, blocks 8 and 9: where to go, or how far.
@@ -61,7 +61,7 @@ impl Section for Travel {
 
 // Where the drive stands; gpos sends it.
 #[repr(C)]
-#[derive(Clone, Copy, PartialEq, Eq)]
+#[derive(Clone, Copy, PartialEq, Eq, Default)]
 pub struct Position {
     pub steps: Steps,
     pub microsteps: Microsteps,
@@ -76,11 +76,7 @@ impl Position {
     pub fn fresh() -> Position
         ensures { result ≡ fresh_position }
     {
-        Position {
-            steps: Steps(0),
-            microsteps: Microsteps(0),
-            count: Count(0),
-        }
+        Position::default()
     }
 
     pub fn encode(self, out: &mut [u8])
@@ -124,8 +120,8 @@ impl Section for Position {
     }
 }
 
-// What spos carries, block 10.
-#[derive(Clone, Copy, PartialEq, Eq)]
+// What spos carries, block 10; its flags are the sheet's bits, as it sends them.
+#[derive(Clone, Copy)]
 pub struct Spos {
     pub position: Position,
     pub flags: u8,

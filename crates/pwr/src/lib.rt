@@ -10,7 +10,7 @@ use sheet::{Block, Section};
 use wire::Number;
 
 #[repr(C)]
-#[derive(Clone, Copy)]
+#[derive(Clone, Copy, Default)]
 pub struct Pwr {
     pub holdCurrent: u8,
     pub currReductDelay: u16,
@@ -94,18 +94,13 @@ impl Block for Pwr {
     }
 
     fn is_sound(part: &[u8]) -> bool {
-        ranges::is_within(0, 100, u8::read(part, 0) as u64)
-            & (ranges::has_only_bits(7, u8::read(part, 7) as u64)
+        ranges::is_within(0, 100, u8::read(part, 0).number())
+            & (ranges::has_only_bits(7, u8::read(part, 7).number())
                 & ((u32::read(part, 8) == 0) & (u16::read(part, 12) == 0)))
     }
 
+    #[tactic(auto, unfolding(sheet::specs::Rows::least, ranges::specs::Tests::within, ranges::specs::Tests::only_bits))]
     fn fresh() -> Pwr {
-        Pwr {
-            holdCurrent: 0,
-            currReductDelay: 0,
-            powerOffDelay: 0,
-            currentSetTime: 0,
-            powerFlags: 0,
-        }
+        Pwr::default()
     }
 }

@@ -17,21 +17,9 @@ use Rattle.ranges.specs.Tests.{first_false, found, ruled, ruled_found}
 
 -- ---- two tests in a row
 
-pub and_yes : (a b : Bool) → a ≡ true → b ≡ (a && b)
-and_yes true b e = refl
-and_yes false b e = absurd (subst T (sym e) tt)
-
-pub and_no : (a b : Bool) → a ≡ false → a ≡ (a && b)
-and_no true b e = absurd (subst T e tt)
-and_no false b e = refl
-
 pub and_true : (a : Bool) → a ≡ (a && true)
 and_true true = refl
 and_true false = refl
-
-pub or_yes : (a b : Bool) → a ≡ true → a ≡ (a || b)
-or_yes true b e = refl
-or_yes false b e = absurd (subst T (sym e) tt)
 
 pub or_no : (a b : Bool) → a ≡ false → b ≡ (a || b)
 or_no true b e = absurd (subst T e tt)
@@ -46,27 +34,11 @@ pub found_some : (n : ℕ) → 0 < n → found n ≡ Some n
 found_some zero h = absurd (lt_irrefl 0 h)
 found_some (suc n) h = refl
 
-pub none_found : (n : ℕ) → found n ≡ None → n ≡ 0
-none_found zero h = refl
-none_found (suc n) h = cc
-
 pub some_found : (n k : ℕ) → found n ≡ Some k → n ≡ k
 some_found zero k h = cc
 some_found (suc n) k h = cc
 
 -- ---- the first test that failed
-
-pub false_later : (ts : List Bool) (k : ℕ) (d : Bool) → k < length ts → get_or ts k d ≡ true → first_false (k + 1) (drop k ts) ≡ first_false (k + 1 + 1) (drop (k + 1) ts)
-unfolding first_false
-false_later ts k d h e = rw (drop-cons ts k d h, e, add-one k)
-
-pub false_here : (ts : List Bool) (k : ℕ) (d : Bool) → k < length ts → get_or ts k d ≡ false → first_false (k + 1) (drop k ts) ≡ k + 1
-unfolding first_false
-false_here ts k d h e = rw (drop-cons ts k d h, e)
-
-pub false_none : (ts : List Bool) (k n : ℕ) → length ts ≤ k → first_false n (drop k ts) ≡ 0
-unfolding first_false
-false_none ts k n h = rw (drop_of_length-le ts h)
 
 none_at : (n : ℕ) (ts : List Bool) → AllWithin (λ t. t ≡ true) ts 0 (length ts) → first_false n ts ≡ 0
 unfolding first_false

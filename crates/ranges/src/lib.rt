@@ -20,7 +20,7 @@ pub fn is_signed_within(k: u16, n: u64) -> bool
     n <= k || 65536 - k <= n
 }
 
-// A 32-bit float whose exponent bits are not all ones.
+// A 32-bit float whose exponent bits are not all ones: of its number, since `from_bits` is undefined at a NaN.
 #[tactic(auto, unfolding(crate::specs::Tests::finite))]
 pub fn is_finite(n: u64) -> bool
     ensures { result ≡ finite n }
@@ -47,5 +47,5 @@ pub fn first_false(tests: &[bool]) -> Option<usize>
 pub fn ruled(bad: Option<usize>, kept: bool) -> Option<usize>
     ensures { result ≡ ruled_found bad kept }
 {
-    bad.or(if kept { None } else { Some(99) })
+    bad.or((!kept).then_some(99))
 }

@@ -37,12 +37,13 @@ fn hold(held: &mut [u8; sheet::FRAME], had: usize, piece: &[u8])
 {
     join(held, had, piece);
     let end = had + piece.len();
-    wire::put(held, end, sheet::FRAME - end, 0);
+    held[end..].fill(0);
 }
 
 // The bytes held and the piece behind them are one line, whose first unit the bytes held begin. Where none are held, the piece is the line. Else
-// all of held is copied, spare bytes too, and the piece is laid over those. The arrays and the rest are passed on apart, as C lends them; and that the
-// piece is short stands here, in run and in the bench: a type for it would be made in receive_lent and taken apart in line.
+// all of held is copied, spare bytes too, and the piece is laid over those: in a buffer of the longest, as there is no heap.
+// The arrays and the rest are passed on apart, as C lends them; piece, stamp and reply, as a call is given them: a struct of them would hold a `&mut`.
+// That the piece is short stands here, in run and in the bench: a type for it would be made in receive_lent and taken apart in line.
 fn run_line(
     table: &mut [u8; table::SIZE],
     held: &mut [u8; sheet::FRAME],

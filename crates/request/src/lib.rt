@@ -8,6 +8,7 @@ ghost use Rattle.request.specs.Request.{frame_of, set_frame, bad_in, refusal_num
 
 use fields::Fields;
 use host::{Block, Order};
+use wire::Number;
 
 // No request has an invalid name.
 #[derive(Clone, Copy)]
@@ -24,6 +25,7 @@ pub enum Refused {
     TooShort = 4,
 }
 
+// By hand with `as`, since nothing derives it.
 impl From<Refused> for u8 {
     ghost from_gives = { λ refused number. number ≡ refusal_number refused };
 
@@ -33,13 +35,14 @@ impl From<Refused> for u8 {
 }
 
 // A frame that is a name only.
+#[tactic(auto, using(wire::proofs::Numbers::length_le_bytes, crate::proofs::Writes::says_too_short, crate::proofs::Writes::says_frame))]
 fn write_name(name: u32, out: &mut [u8]) -> Result<usize, Refused>
     ensures { Writes 0 (le_bytes 4 name) out.old result out.new }
 {
     if out.len() < 4 {
         return Err(Refused::TooShort);
     }
-    wire::put(out, 0, 4, name as u64);
+    wire::put(out, 0, 4, name.number());
     Ok(4)
 }
 

@@ -15,7 +15,8 @@ fn positions(a: Position, b: Position) -> bool
     a == b
 }
 
-// Whether two boards are the same: last stamp, notes, position, unfinished bytes, settings.
+// Whether two boards are the same: last stamp, notes, position, unfinished bytes, settings. No derived `==`: bytes of held behind the count are no part
+// of a board.
 #[tactic(auto, using(crate::proofs::Alike::same_is))]
 fn boards(a: &Board, b: &Board) -> bool
     ensures { result ≡ same_boards a.now b.now }

@@ -1,4 +1,5 @@
 // The comparison of two boards as C and Rust link it: the function of the crate same, with its clause (target/staticlib/libsame.a).
+// It calls the library's of its name, since a crate is a library or an archive.
 #![tactic(auto)]
 
 ghost use Rattle.std.specs.Prelude.{◌≡◌};

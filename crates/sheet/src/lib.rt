@@ -24,7 +24,7 @@ pub struct Head {
     pub get: u32,
 }
 
-// What a data section carries: a record, which the numbers of the fields stand for.
+// What a data section carries: a record, which the numbers of the fields stand for. Each names its own fields, so each has bodies of its own.
 pub trait Section: Copy {
     ghost sheet_row: { Row };
 
@@ -59,7 +59,7 @@ pub trait Block: Section {
 
     ghost GET: { ℕ };
 
-    // Each block has a body of its own: how many numbers it lays differs, and as a const parameter that would stand wherever a block is named.
+    // Each block has its own `numbers` and encode: how many numbers it lays differs, and as a const parameter that would stand wherever a block is named.
     fn encode(self, out: &mut [u8])
         ensures { out.new ≡ sets out.old 0 (data_of Self.sheet_row (Self.to self)) };
 
@@ -68,6 +68,7 @@ pub trait Block: Section {
     fn is_sound(part: &[u8]) -> bool
         ensures { result ≡ sound_in Self.sheet_row part.now };
 
+    // Each field 0, or the least that its range allows. Where that is all 0, it is the default; mov, eng and ctl have none, since it would not be sound.
     fn fresh() -> Self
         ensures { result ≡ Self.of (fresh Self.sheet_row) };
 

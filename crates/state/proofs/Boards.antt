@@ -5,7 +5,7 @@ use mathlib.Core.List.{List}
 use Prim.Native.Nat.{ℕ, ◌<◌}
 use native.Mathlib.Omega.{arith}
 use lib.ListN.{length, take, length-take}
-use borrow.Author.Tests.{eq-eqb, ne_eqb}
+use borrow.Author.Tests.{eq-eqb}
 use Rattle.sheet.specs.Lengths.{longest_frame}
 use Rattle.rule.specs.Rule.{State}
 use Rattle.rule.specs.Framing.{begun}
@@ -84,9 +84,6 @@ module _ (b : Board) where
 -- the verdict of parts
 pub verdict_full : (table held : List ℕ) (rest : Rest) → length held ≡ longest_frame → verdict_at table held rest ≡ verdict_of (board_at table held rest)
 verdict_full table held rest full = rw (eq-eqb (length held) longest_frame full)
-
-pub verdict_other : (table held : List ℕ) (rest : Rest) → (length held ≡ longest_frame → ⊥) → verdict_at table held rest ≡ refused
-verdict_other table held rest other = rw (ne_eqb (length held) longest_frame other)
 
 -- "A fresh board is sound"
 pub fresh_sound : (κs : _) (a : _) (b s : _) → fresh.Post κs a b s → sound_board b ≡ true

@@ -1,23 +1,32 @@
 -- What the first n of the bytes held tell: how long the unit is that they begin, if they begin one. Assumes nothing.
 use mathlib.Core.Path.{◌≡◌, refl, sym, ap, ◌∙◌}
+use mathlib.Core.Bool.{Bool, true, false, cond}
 use mathlib.Core.List.{List}
 use Prim.Native.Nat.{ℕ, zero, suc, ◌≤◌, ◌<◌}
 use native.Mathlib.Omega.{arith}
 use lib.ListN.{length, get_or, take, length-take}
 use lib.Seq.{get_or-take, length-take-le}
-use borrow.Author.Tests.{lt-ltb, le-ltb}
+use borrow.Author.Tests.{lt-ltb, le-ltb, ltb-true}
 use Rattle.wire.proofs.Numbers.{le_at_take}
 use Rattle.sheet.specs.Lengths.{longest_frame}
 use Rattle.rule.specs.Framing.{begun}
 use Rattle.names.specs.Names.{kind_at, kind_of, span as spans, need}
 use Rattle.names.proofs.Need.{kind_named, need_zero, need_name, need_span, need_some, need_most}
-use Rattle.std.specs.Prelude.{Some, None}
+use Rattle.std.specs.Prelude.{Some, None, ltb}
+use Rattle.std.specs.Bool.{then_some}
 use Rattle.state.specs.Sound.{wanted_by, wanting}
 
--- a length that is some
-pub wanting_some : (n k : ℕ) → k < n → wanting n ≡ Some n
-wanting_some zero k h = absurd (omega arith)
-wanting_some (suc n) k h = refl
+-- a length that the code tells only where it is past the n bytes
+pub wanting_told : (n span : ℕ) → then_some (ltb n span) span ≡ wanting (cond (ltb n span) span 0)
+wanting_told n span = by (ltb n span) refl
+  where
+    some : (k : ℕ) → n < k → Some k ≡ wanting k
+    some zero h = absurd (omega arith)
+    some (suc k) h = refl
+
+    by : (y : Bool) → ltb n span ≡ y → then_some y span ≡ wanting (cond y span 0)
+    by true e = some span (ltb-true n span e)
+    by false e = refl
 
 -- what the code found says that it is some, or none
 pub wanting_found : (n k : ℕ) → Some k ≡ wanting n → (k ≡ n) × (n ≡ 0 → ⊥)
@@ -71,8 +80,6 @@ module _ (held : List ℕ) (n : ℕ) (full : length held ≡ longest_frame) wher
         need_is =
             need_span u begins (omega (arith, long)) ∙ ap (λ (j : ℕ). spans (kind_of j)) (le_at_take 4 0 n held h) ∙ sym (ap spans (kind_named held named)) ∙ sym is
 
-        pub wanted_whole : span ≤ n → wanted_by u ≡ 0
-        wanted_whole l = begins_none (omega (arith, need_is, long))
-
-        pub wanted_span : n < span → wanted_by u ≡ span
-        wanted_span l = begins_unit (omega (arith, need_is, long)) ∙ need_is
+        pub wanted_span : wanted_by u ≡ cond (ltb n span) span 0
+        unfolding begun
+        wanted_span = rw (long, need_is)

@@ -3,6 +3,7 @@ use mathlib.Core.Path.{sym, ◌∙◌}
 use Rattle.promise.specs.Promise.{Leaves}
 use Rattle.state.proofs.Refused.{verdict_as}
 use Rattle.state.proofs.U8FromRefusal.from.Reads as number
+use Rattle.state.proofs.number_in.Reads as number-in
 use Rattle.state.proofs.Board.rest.Reads as rest_of
 use Rattle.state.proofs.Board.joined.Reads as joined
 use Rattle.state.proofs.judge_parts.Reads as judge-parts
@@ -30,3 +31,8 @@ idle_one κs a r r' s s' p q = p ∙ sym q
 
 pub fresh_one : Leaves fresh.Post (λ κs r s. r)
 fresh_one κs a r r' s s' p q = p ∙ sym q
+
+-- T, with what the function's bounds say of it
+module _ (T : _) (T-laws : _) where
+  pub number_in_one : Leaves (number-in.Post T T-laws) (λ κs r s. r)
+  number_in_one κs a r r' s s' p q = p ∙ sym q

@@ -1,13 +1,12 @@
 // The board: what it keeps between calls, when that is sound, and how it starts.
 #![tactic(auto)]
 
-ghost use Rattle.std.specs.Prelude.{[], ◌≡◌, length, take};
+ghost use Rattle.std.specs.Prelude.{[], ◌≡◌, take};
 ghost use Rattle.rule.specs.Rule.{state_at};
-ghost use Rattle.sheet.specs.Lengths.{longest_frame};
 ghost use Rattle.unit.specs.Protocol.{sound_memory, fresh_state};
 ghost use Rattle.state.specs.State.{board_of};
 ghost use Rattle.state.specs.Parts.{board_at, rest_of};
-ghost use Rattle.state.specs.Refused.{number_of};
+ghost use Rattle.state.specs.Refused.{number_of, number_in};
 ghost use Rattle.state.specs.Sound.{wanted_by, wanting, verdict_of, verdict_at, verdict_in};
 
 use names::Kind;
@@ -58,28 +57,33 @@ pub struct Report {
 // Why a board, or what is told or lent to it, is refused: a length that is not taken, too little room, a state that is not sound, a field out of range.
 #[derive(Clone, Copy, PartialEq, Eq, Debug)]
 pub enum Refusal {
-    Length,
-    Room,
-    Unsound,
-    Range,
+    Length = 1,
+    Room = 2,
+    Unsound = 3,
+    Range = 5,
 }
 
+// By hand with `as`, since nothing derives it.
 impl From<Refusal> for u8 {
     ghost from_gives = { λ refusal number. number ≡ number_of refusal };
 
     fn from(refusal: Refusal) -> u8 {
-        match refusal {
-            Refusal::Length => 1,
-            Refusal::Room => 2,
-            Refusal::Unsound => 3,
-            Refusal::Range => 5,
-        }
+        refusal as u8
+    }
+}
+
+// 01's number of an answer, 0 where it is no refusal.
+pub fn number_in<T>(answer: &Result<T, Refusal>) -> u8
+    ensures { result ≡ number_in answer.now }
+{
+    match answer {
+        Ok(_) => 0,
+        Err(refusal) => u8::from(*refusal),
     }
 }
 
 // How long the unit is that n bytes in held begin; none where they are neither none nor a true beginning of one unit.
-fn wanted(held: &[u8], n: usize) -> Option<usize>
-    requires { length held.now ≡ longest_frame }
+fn wanted(held: &[u8; sheet::FRAME], n: usize) -> Option<usize>
     ensures { result ≡ wanting (wanted_by (take n held.now)) }
 {
     if n == 0 {
@@ -93,10 +97,10 @@ fn wanted(held: &[u8], n: usize) -> Option<usize>
     }
     let kind = Kind::of(held[0], u32::read(held, 0));
     let span = kind.span();
-    if span <= n { None } else { Some(span) }
+    (n < span).then_some(span)
 }
 
-// 01's list of what a sound state's fields are.
+// The sheets' list of what a sound state's fields are.
 #[tactic(auto, unfolding(unit::specs::Protocol::sound_memory))]
 fn is_sound(table: &[u8; table::SIZE], rest: Rest) -> bool
     ensures { result ≡ sound_memory (board_at table.now [] rest).memory }
@@ -109,8 +113,10 @@ fn is_sound(table: &[u8; table::SIZE], rest: Rest) -> bool
 pub fn judge_parts(table: &[u8; table::SIZE], held: &[u8], rest: Rest) -> Result<usize, Refusal>
     ensures { verdict_in result ≡ verdict_at table.now held.now rest }
 {
-    if held.len() == sheet::FRAME
-        && let Some(wants) = wanted(held, rest.count)
+    let Ok(held) = <&[u8; sheet::FRAME]>::try_from(held) else {
+        return Err(Refusal::Unsound);
+    };
+    if let Some(wants) = wanted(held, rest.count)
         && is_sound(table, rest)
     {
         return Ok(wants);
@@ -120,6 +126,7 @@ pub fn judge_parts(table: &[u8; table::SIZE], held: &[u8], rest: Rest) -> Result
 
 impl Board {
     // A board with nothing unfinished.
+    #[tactic(auto, unfolding(crate::specs::State::padded))]
     pub fn idle(memory: Memory, stamp: u32) -> Board
         ensures { result ≡ board_of (state_at memory [] stamp) }
     {
@@ -135,20 +142,15 @@ impl Board {
     pub fn fresh() -> Board
         ensures { result ≡ board_of fresh_state }
     {
-        let notes = Notes {
-            flags: 0,
-            block: 0,
-            field: 0,
-        };
         let memory = Memory {
             settings: Table::fresh(),
-            notes,
+            notes: Notes::default(),
             position: Position::fresh(),
         };
         Board::idle(memory, 0)
     }
 
-    // A board put together of its parts, and its parts but for the arrays.
+    // A board put together of its parts, and its parts but for the arrays: field by field, since C lends them apart.
     pub fn joined(table: [u8; table::SIZE], held: [u8; sheet::FRAME], rest: Rest) -> Board
         ensures { result ≡ board_at table held rest }
     {
@@ -176,7 +178,7 @@ impl Board {
         }
     }
 
-    // What every public entry answers to a board that is not sound.
+    // How long the unit is that a sound board has begun; a board that is not sound every public entry refuses.
     pub fn judge(&self) -> Result<usize, Refusal>
         ensures { verdict_in result ≡ verdict_of self.now }
     {

@@ -6,13 +6,14 @@ use Prim.Native.Nat.{ℕ, zero, suc, ◌+◌, ◌-◌, ◌≤◌, min}
 use native.Mathlib.Nat.{zero-add, suc-add}
 use native.Mathlib.Omega.{arith}
 use lib.Dec.{ltb}
-use lib.ListN.{length, get_or, take, drop, replicate, length-take, length-drop, drop_of_length-le, get_or-eq_default}
-use lib.Seq.{sets, take-nil, take_all, length-take-le, get_or-take, get_or-drop}
+use lib.ListN.{length, get_or, take, drop, replicate, length-take, get_or-eq_default}
+use lib.Seq.{sets, take_all, length-sets, length-take-le, get_or-take, get_or-drop}
 use borrow.Author.Tests.{ltb-true, ltb-false}
+use borrow.Rule.Slice.PartMut.{mid_of, put_mid, mid_len}
 use Rattle.wire.specs.Numbers.{le_bytes}
 use Rattle.wire.specs.Layout.{sum}
-use Rattle.wire.proofs.Numbers.{le_bytes_zero}
-use Rattle.wire.proofs.Stores.{sets_append}
+use Rattle.wire.proofs.Numbers.{le_bytes_zero, length_le_bytes}
+use Rattle.wire.proofs.Stores.{sets_append, stored as laid}
 use Rattle.ranges.proofs.Tests.{and_true}
 use Rattle.sheet.specs.Sheet.{Row, sheet}
 use Rattle.sheet.specs.Rows.{size_of, row_at, widths, numbers_in}
@@ -26,17 +27,6 @@ use Rattle.table.proofs.Laws.{section_is, put_store}
 use Rattle.table.proofs.Keep.{sheet_once}
 
 -- ---- a part, as far as it is there
-
-pub part_none : (s : List ℕ) (at n : ℕ) → length s ≤ at → take 0 s ≡ take n (drop at s)
-part_none s at n h = sym (ap (take n) (drop_of_length-le s h) ∙ take-nil n)
-
-pub part_rest : (s : List ℕ) (at n : ℕ) → length s - at ≤ n → take (length s - at) (drop at s) ≡ take n (drop at s)
-part_rest s at n h =
-    let l = length-drop at s in
-    take_all (length s - at) (drop at s) (omega arith) ∙ sym (take_all n (drop at s) (omega arith))
-
-pub part_in : (s : List ℕ) (at n : ℕ) → take (at + n - at) (drop at s) ≡ take n (drop at s)
-part_in s at n = let e : at + n - at ≡ n = omega arith in ap (λ (k : ℕ). take k (drop at s)) e
 
 -- byte for byte, it is what stands there, with zeros past the end
 part_byte : (n p : ℕ) (s : List ℕ) (i : ℕ) → get_or (take n (drop p s)) i 0 ≡ get_or (bytes_at n p s) i 0
@@ -84,19 +74,31 @@ stored p w m n t d e =
     (ap (λ (x : List ℕ). take n d ++ x) (replicate_add (w - n) m) ∙ sym (append_assoc (take n d) (replicate (w - n) 0) (replicate m 0))
     ∙ ap (λ (x : List ℕ). x ++ replicate m 0) (sym (bytes_then_zeros w d n e)))
 
+-- zeros from p up to q
+blank : (x z : List ℕ) (p q m : ℕ) → q ≡ p + m → q ≤ length x → z ≡ replicate (length (mid_of p (q - p) x)) 0 → put_mid p (q - p) x z ≡ sets x p (le_bytes m 0)
+blank x z p q m e h is =
+    let l : length (le_bytes m 0) ≡ m = length_le_bytes m 0 in
+    let n : q - p ≡ m = omega arith in
+    let zeros : z ≡ take (q - p) (le_bytes m 0) =
+    is ∙ ap (λ (k : ℕ). replicate k 0) (mid_len p q x h ∙ n) ∙ sym (le_bytes_zero m) ∙ sym (take_all (q - p) (le_bytes m 0) (omega (arith, l))) in
+    ap (put_mid p (q - p) x) zeros ∙ laid x (le_bytes m 0) p (q - p) (omega arith) (omega (arith, l))
+
+-- in a whole table it is all there
+pub section_whole : (k : ℕ) (t : List ℕ) → length t ≡ whole_of sheet → take (size_of (row_at k)) (drop (place_in sheet k) t) ≡ section_in sheet t k
+section_whole k t l = let f = place_fits sheet k in sym (section_is sheet t k (omega arith))
+
 module _ (k : ℕ) (s : Spot) (is : s ≡ spot_in sheet k) where
-  -- it lies within the table
-  pub spot_fits : s.place + (s.fields + s.reserved) ≤ whole_of sheet
-  spot_fits = subst (λ (x : Spot). x.place + (x.fields + x.reserved) ≤ whole_of sheet) (sym is) (place_fits sheet k)
+  pub spot_size : (t : List ℕ) → take (s.fields + s.reserved) (drop s.place t) ≡ take (size_of (row_at k)) (drop (place_in sheet k) t)
+  spot_size t = ap (λ (x : Spot). take (x.fields + x.reserved) (drop x.place t)) is
 
-  pub section_of_lem : (t : List ℕ) → length t ≡ whole_of sheet → take (s.fields + s.reserved) (drop s.place t) ≡ section_in sheet t k
-  section_of_lem t l =
-      let f = place_fits sheet k in
-      ap (λ (x : Spot). take (x.fields + x.reserved) (drop x.place t)) is ∙ sym (section_is sheet t k (omega arith))
-
-  pub put_of : (t d x y : List ℕ) (n : ℕ) → length t ≡ whole_of sheet → n ≡ min s.fields (length d) → x ≡ sets t s.place (take n d)
-      → y ≡ sets x (s.place + n) (le_bytes (s.fields - n + s.reserved) 0) → y ≡ put_in sheet t k d
-  put_of t d x y n l e f g =
-      g ∙ ap (λ (z : List ℕ). sets z (s.place + n) (le_bytes (s.fields - n + s.reserved) 0)) f
-      ∙ subst (λ (z : Spot). n ≡ min z.fields (length d) → sets (sets t z.place (take n d)) (z.place + n) (le_bytes (z.fields - n + z.reserved) 0) ≡ put_in sheet t k d) (sym is)
+  -- the bytes of the fields, and zeros up to the section's end
+  pub put_of : (t d x z : List ℕ) (n : ℕ) → length t ≡ whole_of sheet → n ≡ min s.fields (length d) → x ≡ sets t s.place (take n d)
+      → let end = s.place + s.fields + s.reserved - (s.place + n) in
+      z ≡ replicate (length (mid_of (s.place + n) end x)) 0 → put_mid (s.place + n) end x z ≡ put_in sheet t k d
+  put_of t d x z n l e f zeros =
+      let fits : s.place + (s.fields + s.reserved) ≤ whole_of sheet = subst (λ (y : Spot). y.place + (y.fields + y.reserved) ≤ whole_of sheet) (sym is) (place_fits sheet k) in
+      let long : length x ≡ length t = ap length f ∙ length-sets t s.place (take n d) in
+      blank x z (s.place + n) (s.place + s.fields + s.reserved) (s.fields - n + s.reserved) (omega (arith, e)) (omega (arith, long)) zeros
+      ∙ ap (λ (y : List ℕ). sets y (s.place + n) (le_bytes (s.fields - n + s.reserved) 0)) f
+      ∙ subst (λ (y : Spot). n ≡ min y.fields (length d) → sets (sets t y.place (take n d)) (y.place + n) (le_bytes (y.fields - n + y.reserved) 0) ≡ put_in sheet t k d) (sym is)
       (λ h. stored (place_in sheet k) (sum (widths (row_at k))) (row_at k).reserved n t d h ∙ sym (put_store sheet sheet_once t k d l)) e

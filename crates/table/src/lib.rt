@@ -6,9 +6,9 @@ ghost use Rattle.std.specs.Prelude.{◌≡◌, take, drop};
 ghost use Rattle.std.proofs.lemmas.List.Edits.{sets};
 ghost use Rattle.ranges.specs.Tests.{found};
 ghost use Rattle.sheet.specs.Sheet.{sheet};
-ghost use Rattle.sheet.specs.Rows.{row_at, numbers_in, first_bad};
+ghost use Rattle.sheet.specs.Rows.{row_at, size_of, numbers_in, first_bad};
 ghost use Rattle.sheet.specs.Sections.{bad_in};
-ghost use Rattle.table.specs.Places.{spot_in, section_in, put_in};
+ghost use Rattle.table.specs.Places.{place_in, spot_in, section_in, put_in};
 ghost use Rattle.table.specs.Table.{all_good, fresh_table};
 
 use brk::Brk;
@@ -66,14 +66,14 @@ fn spot_of(number: usize) -> Spot
     }
 }
 
-// The same of a data section that carries an S.
+// The first field out of its range in a data section that carries an S; behind all ranges 99, for a broken rule.
 fn bad_of<S: Section>(section: &[u8]) -> Option<usize>
     ensures { result ≡ found (first_bad S.sheet_row (S.to (S.of (numbers_in S.sheet_row section.now)))) }
 {
     S::decode(section).first_bad()
 }
 
-// The number of the first field out of its range in a data section for the block of this number, or, behind all of them, 99 for a broken rule.
+// The same by the block's number; none for a number of no block.
 pub fn bad_in(number: usize, section: &[u8]) -> Option<usize>
     ensures { result ≡ found (bad_in (row_at number) section.now) }
 {
@@ -99,7 +99,8 @@ pub fn part(bytes: &[u8], at: usize, n: usize) -> &[u8]
     &rest[..n.min(rest.len())]
 }
 
-// Whether these bytes are a sound table: of its length, every field in its range, every reserved byte zero.
+// Whether these bytes are a sound table: of its length, every field in its range, every reserved byte zero. By places and not by `section`, since it is
+// asked at every call.
 pub fn is_sound(bytes: &[u8]) -> bool
     ensures { result ≡ all_good (record { bytes = bytes.entry.now }) }
 {
@@ -117,7 +118,7 @@ pub fn is_sound(bytes: &[u8]) -> bool
 
 impl Table {
     // Zeros, but for the fields that have to be more: mov's Accel and Decel, eng's NomCurrent, NomSpeed, MicrostepMode and StepsPerRev,
-    // ctl's first speed.
+    // ctl's first speed. Not laid out of each block's fresh: nine encodes for seven bytes are no plainer.
     pub fn fresh() -> Table
         ensures { result ≡ fresh_table }
     {
@@ -140,14 +141,22 @@ pub fn put(table: &mut [u8; SIZE], number: usize, section: &[u8])
     let spot = spot_of(number);
     let n = spot.fields.min(section.len());
     wire::copy(table, spot.place, &section[..n]);
-    wire::put(table, spot.place + n, spot.fields - n + spot.reserved, 0);
+    table[spot.place + n..spot.place + spot.fields + spot.reserved].fill(0);
 }
 
-// The data section of the block of this number, at the front of out.
+// The data section of the block of this number, where it stands in a table's bytes, as far as they go.
+#[tactic(auto, using(crate::proofs::Spots::spot_size))]
+pub fn section(bytes: &[u8], number: usize) -> &[u8]
+    ensures { result.now ≡ take (size_of (row_at number)) (drop (place_in sheet number) bytes.now) }
+{
+    let spot = spot_of(number);
+    part(bytes, spot.place, spot.fields + spot.reserved)
+}
+
+// The same at the front of out.
+#[tactic(auto, using(crate::proofs::Spots::section_whole))]
 pub fn get(table: &[u8; SIZE], number: usize, out: &mut [u8])
     ensures { out.new ≡ sets out.old 0 (section_in sheet table.now number) }
 {
-    let spot = spot_of(number);
-    let bytes = &table[..];
-    wire::copy(out, 0, part(bytes, spot.place, spot.fields + spot.reserved));
+    wire::copy(out, 0, section(table, number));
 }

@@ -182,9 +182,3 @@ whole_text {before} {after} {said} {r} w h =
     let n : r ≡ length said = omega (arith, w.behind) in
     let l : 0 + length said ≤ length before = omega arith in
     (n, rw (n, w.bytes, sets-eq said before 0 l) (take_at said _ (length said) refl))
-
--- so many bytes stand in front of the place behind a text
-pub text_front : {before after said : List ℕ} {at r : ℕ} → Written before at said r after → r ≡ length (take r after)
-text_front {before} {after} {said} {at} {r} w =
-    let l : r ≤ length after = omega (arith, w.behind, ap length w.bytes, length-sets before at said) in
-    sym (length-take-le r after l)

@@ -1,6 +1,6 @@
 // Text in ASCII, laid into a lent buffer from a place on: bytes, decimal, hexadecimal. The answer is the place behind. Every function answers
 // every input: a byte past the end of the buffer is not written.
-// By hand and not by Display, whose `fmt` may fail and then does not say what it has written. And no struct of buffer and place: one that lends its
+// By hand and not by Display: only of a String does `write!` say what it has written, and there is no heap. And no struct of buffer and place: one that lends its
 // buffer on would say of each text what its entry and its exit are, and one that owns it takes no buffer of the caller's.
 #![tactic(auto)]
 
@@ -20,6 +20,7 @@ pub fn write_byte(out: &mut [u8], at: usize, b: u8) -> usize
     write_text(out, at, &[b])
 }
 
+// `as u8`, since the digit is below 10: a TryFrom would only be unwrapped.
 pub fn write_decimal(out: &mut [u8], at: usize, n: u64) -> usize
     ensures { Written out.old at (decimal n) result out.new }
 {

@@ -37,10 +37,10 @@ fn is_wrong(part: &[u8], place: usize, byte: u8) -> bool
 pub fn read_record(part: &[u8]) -> Result<Head, NoRecord>
     ensures { result ≡ reading part.now }
 {
-    if is_wrong(part, 0, 0x4c) || is_wrong(part, 1, 0x4b) {
+    if is_wrong(part, 0, b'L') || is_wrong(part, 1, b'K') {
         return Err(NoRecord::Bad);
     }
-    let count = u8::read(part, 6) as usize;
+    let count = usize::from(u8::read(part, 6));
     if LONGEST < count {
         return Err(NoRecord::Bad);
     }

@@ -2,12 +2,12 @@
 ghost use Rattle.std.specs.Prelude.{◌≡◌};
 ghost use Rattle.unit.specs.Unit.{move_order, moves, JudgesAny};
 
+use crate::carried;
 use orders::Order;
 use position::Travel;
-use sheet::Section;
 use unit::{Judged, Slate};
 
-// The order of block 8, and of block 9.
+// The order of block 8, and of block 9: by number, since `answer_move` promises an answer to any.
 fn order_of(block: usize, travel: Travel) -> Order
     ensures { result ≡ move_order block travel }
 {
@@ -18,19 +18,18 @@ fn order_of(block: usize, travel: Travel) -> Order
     }
 }
 
+#[tactic(auto, unfolding(unit::specs::Unit::moves, unit::specs::Unit::checked))]
 pub fn answer_move(slate: Slate, block: usize, unit: &[u8], reply: &mut [u8]) -> Judged
     ensures { JudgesAny (λ m. moves m block unit.now) slate reply.old result reply.new }
 {
-    let Some(section) = frame::section(unit) else {
-        return slate.refuse_crc(reply);
-    };
-    let travel = Travel::decode(section);
-    if let Some(bad) = travel.first_bad() {
-        return slate.refuse_field(block, bad, reply);
-    }
-    unit::echo(unit, reply);
-    Judged {
-        order: order_of(block, travel),
-        slate,
+    match carried(slate, block, unit, reply) {
+        Ok(travel) => {
+            unit::echo(unit, reply);
+            Judged {
+                order: order_of(block, travel),
+                slate,
+            }
+        }
+        Err(refused) => refused,
     }
 }

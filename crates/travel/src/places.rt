@@ -2,27 +2,27 @@
 ghost use Rattle.names.specs.Names.{name_of};
 ghost use Rattle.unit.specs.Unit.{places, finds, clears, JudgesAny};
 
+use crate::carried;
 use position::{Position, Spos};
-use sheet::Section;
 use unit::{Judged, Slate};
 
 // Checked as a set is. Its microsteps are tested also where a flag leaves the board's own.
+#[tactic(auto, unfolding(unit::specs::Unit::places, unit::specs::Unit::checked))]
 pub fn answer_spos(slate: Slate, unit: &[u8], reply: &mut [u8]) -> Judged
     ensures { JudgesAny (λ m. places m unit.now) slate reply.old result reply.new }
 {
-    let Some(section) = frame::section(unit) else {
-        return slate.refuse_crc(reply);
-    };
-    let spos = Spos::decode(section);
-    if let Some(bad) = spos.first_bad() {
-        return slate.refuse_field(10, bad, reply);
+    match carried::<Spos>(slate, 10, unit, reply) {
+        Ok(spos) => {
+            unit::echo(unit, reply);
+            let position = spos.placed(slate.position);
+            Slate { position, ..slate }.quiet()
+        }
+        Err(refused) => refused,
     }
-    unit::echo(unit, reply);
-    let position = spos.placed(slate.position);
-    Slate { position, ..slate }.quiet()
 }
 
-// The position as it stands, laid out aside as a get's section is: one function for both would take a closure that writes a lent buffer.
+// The position as it stands, laid out aside as a get's section is, in a buffer of the longest, as there is no heap: one function for both would take a
+// closure that writes a lent buffer.
 pub fn answer_gpos(slate: Slate, name: u32, reply: &mut [u8]) -> Judged
     ensures { JudgesAny (λ m. finds m name) slate reply.old result reply.new }
 {

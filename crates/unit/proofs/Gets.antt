@@ -46,9 +46,6 @@ module _ (m : Memory) (k n : ℕ) (looked : n ≡ total_in get_table k) (zs sect
 
 module _ (m : Memory) (zs section : List ℕ) (room : longest_frame ≡ length zs)
     (laid : section ≡ sets zs 0 (data_of gpos_row (position_numbers m.position))) where
-  pub position_room : 20 ≤ length section
-  position_room = aside_fits gpos_row (data_of gpos_row (position_numbers m.position)) (sent-length gpos_row (position_numbers m.position)) 26 refl zs section (omega arith) laid
-
   pub says_found : (name : ℕ) (before after : List ℕ) → after ≡ sets before 0 (framed name (take 20 section))
       → Judges (finds m name) before (record { order = Nothing; memory = m }) after
   unfolding finds

@@ -9,7 +9,7 @@ use lib.ListN.{length, take, drop}
 use borrow.Author.Tests.{eq-eqb, ne_eqb, eqb-true}
 use Rattle.std.specs.Prelude.{Option, Some, None}
 use Rattle.ranges.specs.Tests.{found}
-use Rattle.ranges.proofs.Tests.{found_none, none_found, some_found}
+use Rattle.ranges.proofs.Tests.{found_none, some_found}
 use Rattle.frame.specs.Frame.{data_in, intact}
 use Rattle.rule.specs.Rule.{Said}
 use Rattle.rule.proofs.Choice.{either_by, either}
@@ -48,7 +48,7 @@ module _ (m : Memory) (u : List ℕ) (k bad : ℕ) (done : Said Order Memory) wh
   unfolding checked
   checked_cases P wrong out good = either P (intact u) _ _ (either_by P (eqb bad 0) _ _ (λ e. good (eqb-true bad 0 e)) (λ _. out)) wrong
 
-  -- the code's three answers
+  -- the code's refusals
   module _ {before after : List ℕ} {d : Outcome} where
     pub says_damaged : intact u ≡ false → Judges (damaged m) before d after → Judges (checked m u k bad done) before d after
     says_damaged e j = subst (λ (a : Said Order Memory). Judges a before d after) (sym (checked_damaged e)) j
@@ -61,6 +61,3 @@ module _ (m : Memory) (u : List ℕ) (k bad : ℕ) (done : Said Order Memory) wh
         subst (λ (a : Said Order Memory). Judges a before d after)
         (ap (out_of_range m k) (sym (some_found bad n some)) ∙ sym (checked_refused e (λ z. let e = none_then z in cc)))
         j
-
-    pub says_done : (o : Option ℕ) → o ≡ found bad → o ≡ None → intact u ≡ true → Judges done before d after → Judges (checked m u k bad done) before d after
-    says_done o f is e j = subst (λ (a : Said Order Memory). Judges a before d after) (sym (checked_done e (none_found bad (sym f ∙ is)))) j

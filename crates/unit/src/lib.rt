@@ -13,9 +13,10 @@ use position::Position;
 use table::Table;
 use wire::Number;
 
-// The flags, and the last refused block and field. All are words, so that a copy has no gap to move.
+// The flags, by the sheet's bits, and the last refused block and field, 0 where there is none: numbers, as C has them. All are words, so that a copy has
+// no gap to move.
 #[repr(C)]
-#[derive(Clone, Copy, PartialEq, Eq)]
+#[derive(Clone, Copy, PartialEq, Eq, Default)]
 pub struct Notes {
     pub flags: usize,
     pub block: usize,
@@ -32,7 +33,8 @@ pub struct Memory {
 }
 
 // The memory but for its table, which is lent: nothing of it is moved while units are answered.
-// No struct of slate, unit and reply, which are passed on together: it would hold a `&mut`, and every clause would speak of its entry and its exit.
+// Here and in act and travel slate, unit and reply are passed on apart: a struct of them would hold a `&mut`, and every clause would speak of its entry
+// and its exit.
 #[derive(Clone, Copy)]
 pub struct Slate {
     pub notes: Notes,
@@ -71,18 +73,18 @@ impl Slate {
     pub fn refuse_crc(self, reply: &mut [u8]) -> Judged
         ensures { JudgesAny damaged self reply.old result reply.new }
     {
-        wire::put(reply, 0, 4, sheet::names::ERRD as u64);
+        wire::put(reply, 0, 4, sheet::names::ERRD.number());
         self.flagged(2).quiet()
     }
 
     pub fn refuse_field(self, block: usize, field: usize, reply: &mut [u8]) -> Judged
         ensures { JudgesAny (λ m. out_of_range m block field) self reply.old result reply.new }
     {
-        wire::put(reply, 0, 4, sheet::names::ERRV as u64);
+        wire::put(reply, 0, 4, sheet::names::ERRV.number());
         let notes = Notes {
-            flags: self.notes.flags | 4,
             block,
             field,
+            ..self.flagged(4).notes
         };
         Slate { notes, ..self }.quiet()
     }
@@ -92,5 +94,5 @@ impl Slate {
 pub fn echo(unit: &[u8], reply: &mut [u8])
     ensures { reply.new ≡ sets reply.old 0 (le_bytes 4 (name_of unit.now)) }
 {
-    wire::put(reply, 0, 4, u32::read(unit, 0) as u64)
+    wire::put(reply, 0, 4, u32::read(unit, 0).number())
 }

@@ -21,16 +21,6 @@ use Rattle.ranges.proofs.Tests.{and_true, or_no}
 pub back : (w : Width) (z : ℤ) → mag z < 2 ^ hbits w → to_z w (of_z w z) ≡ z
 back w z h = to_z-of_z w z (record { sfits = h })
 
--- ---- a narrower number as one of 64 bits: it fits, and stays the number
-
-module _ (w : Width) (z : ℤ) (narrower : T (leb (hbits w) (hbits w64))) (fits : SFits w z) where
-  pub widens : SFits w64 (to_z w (of_z w z))
-  widens = subst (SFits w64) (sym (to_z-of_z w z fits)) (sfits_widen narrower fits)
-
-  -- what the machine reads back of it at 64 bits
-  pub widened : {r : ℤ} → r ≡ to_z w (of_z w z) → to_z w64 (of_z w64 r) ≡ z
-  widened e = ap (λ (y : ℤ). to_z w64 (of_z w64 y)) (e ∙ to_z-of_z w z fits) ∙ to_z-of_z w64 z (sfits_widen narrower fits)
-
 -- ---- floats
 
 pub is_nan_lem : (x : Float) → is_nan x ≡ true → x ≡ nan

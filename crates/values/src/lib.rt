@@ -22,6 +22,7 @@ pub trait Bits: Copy {
         ensures { result ≡ bits self };
 }
 
+// An impl for each type, since `rt ci` refuses an impl that a macro of the repository writes.
 impl Bits for i16 {
     type Unsigned = u16;
 
@@ -78,6 +79,7 @@ impl Bits for f32 {
 
     ghost bits = { to_bits binary32 };
 
+    #[tactic(auto, using(crate::proofs::Values::pattern_no_nan, crate::proofs::Values::pattern_nan))]
     fn of_bits(n: u32) -> f32 {
         if n % 2147483648 > 2139095040 {
             f32::NAN
@@ -86,6 +88,7 @@ impl Bits for f32 {
         }
     }
 
+    #[tactic(auto, using(crate::proofs::Values::is_nan_lem, crate::proofs::Values::nan_bits_lem))]
     fn bits(self) -> u32 {
         if self.is_nan() {
             2143289344

@@ -1,4 +1,5 @@
 // The fields of a block as C and Rust link them: the functions of the crate views, with their clauses (target/staticlib/libviews.a).
+// One function for each name of C, which takes no type parameter; each calls the library's of its name, since a crate is a library or an archive.
 #![tactic(auto)]
 
 ghost use Rattle.std.specs.Prelude.{◌≡◌};

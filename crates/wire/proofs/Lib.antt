@@ -2,5 +2,4 @@ pub mod Numbers
 pub mod Stores
 pub mod Laid
 pub mod Runs
-pub mod Picks
 pub mod One

@@ -18,6 +18,7 @@ use values::Bits;
 // ---- reading
 
 // N bytes from a place on, in an array. Where all are there, they are read together; past the end stand zeros.
+#[tactic(auto, using(crate::proofs::Numbers::le_at_take, crate::proofs::Numbers::le_at_rest, crate::proofs::Numbers::le_at_zeros))]
 fn bytes_at<const N: usize>(s: &[u8], at: usize) -> [u8; N]
     ensures { le_at N 0 result ≡ le_at N at s.now }
 {
@@ -34,30 +35,35 @@ fn bytes_at<const N: usize>(s: &[u8], at: usize) -> [u8; N]
 
 // A number as it stands on the wire, low byte first: in how many bytes, what number of no sign stands for it, and back.
 pub trait Number: Copy {
-    ghost width: { ℕ };
+    const WIDTH: usize;
+
+    ghost WIDTH: { ℕ };
 
     ghost stands_for: { ℕ → Self };
 
     ghost on_wire: { Self → ℕ };
 
     fn read(s: &[u8], at: usize) -> Self
-        ensures { result ≡ stands_for (le_at width at s.now) };
+        ensures { result ≡ stands_for (le_at WIDTH at s.now) };
 
     fn number(self) -> u64
         ensures { result ≡ on_wire self };
 
     // What was read is sent as a number that stands for the same.
-    ghost back: { (n : ℕ) → n < 256 ^ width → stands_for (on_wire (stands_for n)) ≡ stands_for n };
+    ghost back: { (n : ℕ) → n < 256 ^ WIDTH → stands_for (on_wire (stands_for n)) ≡ stands_for n };
 }
 
-// An impl a type, since rt takes none that a macro writes.
+// An impl for each type, since `rt ci` refuses an impl that a macro of the repository writes.
 impl Number for u8 {
-    ghost width = { 1 };
+    const WIDTH: usize = 1;
+
+    ghost WIDTH = { 1 };
 
     ghost stands_for = { λ n. n };
 
     ghost on_wire = { λ n. n };
 
+    #[tactic(auto, using(crate::proofs::Numbers::read_1))]
     fn read(s: &[u8], at: usize) -> u8 {
         u8::from_le_bytes(bytes_at(s, at))
     }
@@ -70,12 +76,15 @@ impl Number for u8 {
 }
 
 impl Number for u16 {
-    ghost width = { 2 };
+    const WIDTH: usize = 2;
+
+    ghost WIDTH = { 2 };
 
     ghost stands_for = { λ n. n };
 
     ghost on_wire = { λ n. n };
 
+    #[tactic(auto, using(crate::proofs::Numbers::read_2))]
     fn read(s: &[u8], at: usize) -> u16 {
         u16::from_le_bytes(bytes_at(s, at))
     }
@@ -88,12 +97,15 @@ impl Number for u16 {
 }
 
 impl Number for u32 {
-    ghost width = { 4 };
+    const WIDTH: usize = 4;
+
+    ghost WIDTH = { 4 };
 
     ghost stands_for = { λ n. n };
 
     ghost on_wire = { λ n. n };
 
+    #[tactic(auto, using(crate::proofs::Numbers::read_4))]
     fn read(s: &[u8], at: usize) -> u32 {
         u32::from_le_bytes(bytes_at(s, at))
     }
@@ -106,12 +118,15 @@ impl Number for u32 {
 }
 
 impl Number for u64 {
-    ghost width = { 8 };
+    const WIDTH: usize = 8;
+
+    ghost WIDTH = { 8 };
 
     ghost stands_for = { λ n. n };
 
     ghost on_wire = { λ n. n };
 
+    #[tactic(auto, using(crate::proofs::Numbers::read_8))]
     fn read(s: &[u8], at: usize) -> u64 {
         u64::from_le_bytes(bytes_at(s, at))
     }
@@ -124,7 +139,9 @@ impl Number for u64 {
 }
 
 impl Number for i16 {
-    ghost width = { 2 };
+    const WIDTH: usize = 2;
+
+    ghost WIDTH = { 2 };
 
     ghost stands_for = { to_z w16 };
 
@@ -142,7 +159,9 @@ impl Number for i16 {
 }
 
 impl Number for i32 {
-    ghost width = { 4 };
+    const WIDTH: usize = 4;
+
+    ghost WIDTH = { 4 };
 
     ghost stands_for = { to_z w32 };
 
@@ -160,7 +179,9 @@ impl Number for i32 {
 }
 
 impl Number for i64 {
-    ghost width = { 8 };
+    const WIDTH: usize = 8;
+
+    ghost WIDTH = { 8 };
 
     ghost stands_for = { to_z w64 };
 
@@ -178,7 +199,9 @@ impl Number for i64 {
 }
 
 impl Number for f32 {
-    ghost width = { 4 };
+    const WIDTH: usize = 4;
+
+    ghost WIDTH = { 4 };
 
     ghost stands_for = { of_bits binary32 };
 
@@ -197,7 +220,8 @@ impl Number for f32 {
 
 // ---- writing
 
-// The w bytes of v from a place on: one writer for every width.
+// The w bytes of v from a place on: one writer for every width, also beyond the eight of `to_le_bytes`. `as u8` cuts, as no From does.
+#[tactic(auto, using(crate::proofs::Stores::sets_past))]
 pub fn put(out: &mut [u8], at: usize, w: usize, v: u64)
     ensures { out.new ≡ sets out.old at (le_bytes w v) }
 {
@@ -213,7 +237,9 @@ pub fn put(out: &mut [u8], at: usize, w: usize, v: u64)
     }
 }
 
-// Numbers one behind the other from the front on, each in its width; a width without a number is zeros.
+// Numbers one behind the other from the front on, each in its width; a width without a number is zeros. Two lists and no pairs: the widths are a block's
+// constant, the numbers its fields, and the last width has none. By index, since a zip would end with the numbers.
+#[tactic(auto, using(crate::proofs::Laid::lay_step, crate::proofs::Laid::lay_last, crate::proofs::Laid::lay_end))]
 pub fn lay(out: &mut [u8], ws: &[usize], vs: &[u64])
     ensures { out.new ≡ sets out.old 0 (laid ws.now vs.now) }
 {
@@ -228,6 +254,7 @@ pub fn lay(out: &mut [u8], ws: &[usize], vs: &[u64])
 }
 
 // The bytes of a part from a place on, as many as fit.
+#[tactic(auto, using(crate::proofs::Stores::sets_past, crate::proofs::Stores::stored))]
 pub fn copy(out: &mut [u8], at: usize, part: &[u8])
     ensures { out.new ≡ sets out.old at part.now }
 {

@@ -12,12 +12,6 @@ use Rattle.act.proofs.answer_get.Goals as goal
 room : (c : After-total_of-n) → c.total_of-n.result - 6 ≤ length c.get.new.out
 room c = section_room (memory_at c.args.table.now c.args.slate) c.args.k _ c.total_of-n.ensures.get _ _ refl c.get.ensures
 
-pub overflow_sub-n : goal.overflow_sub-n
-overflow_sub-n c = omega (arith, c.total_of-n.ensures.get, get_total c.args.k)
-
-pub slice_bounds-section-end : goal.slice_bounds-section-end
-slice_bounds-section-end c = room (goal.at.slice_bounds-section-end c).After-total_of-n
-
 pub slice_bounds-put-end : goal.slice_bounds-put-end
 slice_bounds-put-end c = sym (length-take-le _ _ (room (goal.at.slice_bounds-put-end c).After-total_of-n))
 

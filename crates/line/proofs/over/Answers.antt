@@ -1,13 +1,13 @@
 -- What is left is laid at the front, and zeros behind it. Assumes nothing.
-use Rattle.std.proofs.Common.{length, refl}
-use Rattle.state.proofs.Padded.{padded_laid}
+use Rattle.std.proofs.Common.{length, arith}
+use Rattle.state.proofs.Padded.{padded_behind}
 use Rattle.unit.specs.Unit.{memory_at}
 use Rattle.line.proofs.over.Goals as goal
 
 pub returns : goal.returns
 returns c table =
     let a = c.args in
-    let held = padded_laid a.held.now a.left.now _ _ _ refl c.told-held c.requires c.copy.ensures c.put.ensures in
+    let held = padded_behind a.held.now a.left.now _ _ 0 (length a.left.now) (omega arith) c.told-held c.requires c.copy.ensures (c.fill.ensures.after (λ y e. e)) in
     λ k.
     record {
       number = 0;

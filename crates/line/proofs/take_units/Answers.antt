@@ -47,11 +47,11 @@ returns-then-reply-w c =
     turns.full _ _ _ _ _ _ _ _ c.loop-i.invariant c.loop-i-test.true _ _ it c.if-line-i.false _ c.replied-due.ensures _
     c.if-reply-w.true (c.over-then-reply-w.ensures _)
 
-pub returns-then-number-ne0 : goal.returns-then-number-ne0
-returns-then-number-ne0 c =
+pub returns-then-ne : goal.returns-then-ne
+returns-then-ne c =
     let it = turns.looks _ _ _ _ _ c.read.ensures c.of-kind.ensures c.span-n.ensures in
     turns.gives _ _ _ _ _ _ _ _ c.loop-i.invariant c.loop-i-test.true _ _ it c.if-line-i.false _ c.replied-due.ensures
-    c.if-reply-w.false _ _ c.answer-judged.ensures (λ e. c.if-number-ne0.true (c.number.ensures ∙ e)) _ (c.over-then-number-ne0.ensures _)
+    c.if-reply-w.false _ _ c.answer-judged.ensures (turns.tells _ ∙ rw (sym c.ne.ensures ∙ c.if-ne.true)) _ (c.over-then-ne.ensures _)
 
 pub loop-i-smaller : goal.loop-i-smaller
 loop-i-smaller c =
@@ -62,7 +62,7 @@ pub loop-i-preserved : goal.loop-i-preserved
 loop-i-preserved c =
     let it = turns.looks _ _ _ _ _ c.read.ensures c.of-kind.ensures c.span-n.ensures in
     turns.goes _ _ _ _ _ _ _ _ c.loop-i.invariant c.loop-i-test.true _ _ it c.if-line-i.false _ c.replied-due.ensures
-    c.if-reply-w.false _ _ c.answer-judged.ensures (sym c.number.ensures ∙ c.if-number-ne0.false)
+    c.if-reply-w.false _ _ c.answer-judged.ensures (turns.tells _ ∙ rw (sym c.ne.ensures ∙ c.if-ne.false))
 
 pub returns : goal.returns
 returns c = turns.ends _ _ _ _ _ _ _ _ c.loop-i.invariant _ c.loop-i-test.false (c.over-2.ensures _)

@@ -15,9 +15,6 @@ whole : (s s₀ : List ℕ) (k n v x : ℕ) → length s₀ ≡ n → n ≤ k �
 unfolding le_bytes
 whole s s₀ k n v x l h e = let z : n - k ≡ 0 = omega arith in rw z at e ∙ sets_whole s₀ (le_bytes n v) (length_le_bytes n v ∙ sym l)
 
-pub returns-then-out-at : goal.returns-then-out-at
-returns-then-out-at c = sym (sets_past (le_bytes c.args.w c.args.v) c.args.out.now c.args.at c.if-out-at.true)
-
 pub loop-place-preserved : goal.loop-place-preserved
 loop-place-preserved c = step c.loop-place.place-items _ c.loop-place.place-index _ c.loop-place.x c.loop-place-test.true c.loop-place.invariant
 

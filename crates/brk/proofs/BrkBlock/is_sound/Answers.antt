@@ -8,7 +8,7 @@ use Rattle.brk.proofs.BrkBlock.is_sound.Goals as goal
 pub returns : goal.returns
 returns c =
     let d = c.args.part.now in
-    (tested (only_bits 3) _ _ _ _ _ c.read.ensures c.has_only_bits.ensures
+    (tested (only_bits 3) _ _ _ _ _ (c.number.ensures ∙ c.read.ensures) c.has_only_bits.ensures
     (zeroed 8 2 9 d _ _ c.read-2.ensures
     (zeroed_last 2 17 d _ c.read-3.ensures)))
     ∙ sym (sound_tests brk_row d)

@@ -1,9 +1,0 @@
--- `hom::Hom::fresh` meets its contract: each field is the least that its test takes. Assumes nothing.
-use mathlib.Core.Path.{refl}
-use Rattle.ranges.specs.Tests.{within, signed_within, only_bits}
-use Rattle.sheet.specs.Rows.{least}
-use Rattle.hom.proofs.HomBlock.fresh.Goals as goal
-
-pub returns : goal.returns
-unfolding least within signed_within only_bits
-returns c = refl
