@@ -57,11 +57,13 @@ fn tests_of(ns: &[u64; 33]) -> [bool; 33]
     })
 }
 
-// Whether every speed of a data section is in its range.
+// Whether every speed of a data section is in its range. By `fold` and not `all`: it is asked at every call, and so has no branch.
 fn speeds_within(part: &[u8]) -> bool
     ensures { result ≡ eqb (first_false 1 (verdicts (take 10 ctl_row.fields) 0 (numbers_in ctl_row part.now))) 0 }
 {
-    (0..10).all(|k| ranges::is_within(0, 100000, u32::read(part, 4 * k).number()))
+    (0..10).fold(true, |all, k| {
+        all & ranges::is_within(0, 100000, u32::read(part, 4 * k).number())
+    })
 }
 
 impl Ctl {
