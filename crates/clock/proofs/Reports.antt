@@ -1,6 +1,7 @@
 -- What a report of the time does to a board, case by case, and that it is the rule's event. In quotation marks: sheet 02, P3. Assumes nothing.
-use Rattle.std.proofs.Common.{◌≡◌, ℕ, ◌≤◌, Bool, true, false, cond, ltb, length, take, refl, ap, ◌∙◌, arith, length-take, le-ltb, eq-eqb, ne_eqb}
+use Rattle.std.proofs.Common.{◌≡◌, ℕ, ◌<◌, ◌≤◌, Bool, true, false, cond, ltb, length, take, refl, ap, ◌∙◌, arith, length-take, le-ltb, lt-ltb, eq-eqb, ne_eqb}
 use Rattle.std.specs.Prelude.{Result, Ok, Err}
+use Rattle.sheet.specs.Lengths.{longest_frame}
 use Rattle.rule.specs.Run.{late}
 use Rattle.rule.specs.Rule.{State}
 use Rattle.rule.proofs.Choice.{either}
@@ -37,6 +38,10 @@ module _ (b : Board) (now : ℕ) where
 
   pub early_stays : late now b.stamp ≡ false → clocked_board b now ≡ b
   early_stays e = rw (e, either (λ (y : Bool). y ≡ false) (ltb 0 (length (take b.count b.held))) false false refl refl)
+
+  -- "If something is unfinished and the wait since the last byte exceeds 400, it is dropped"
+  pub overdue_drops : 0 < b.count → length b.held ≡ longest_frame → late now b.stamp ≡ true → clocked_board b now ≡ board_of (dropped (state_of b))
+  overdue_drops some f e = rw (lt-ltb 0 (length (take b.count b.held)) (omega (arith, length-take b.count b.held)), e)
 
 -- ---- a board and the state it stands for
 

@@ -1,3 +1,2 @@
 pub mod Codec
-pub mod Made
 pub mod One

@@ -3,7 +3,7 @@
 use mathlib.Core.Path.{◌≡◌, refl}
 use mathlib.Core.Bool.{Bool, true, false}
 use Rattle.std.specs.Prelude.{Result, Ok, Err}
-use borrow.Author.Tests.{ne_eqb}
+use borrow.Author.Tests.{eq-eqb, ne_eqb}
 use Rattle.rule.specs.Rule.{State, state_at}
 use Rattle.position.specs.Position.{sound_position}
 use Rattle.position.specs.declared.Position.{Position}
@@ -21,6 +21,14 @@ module _ (b : Board) (p : Position) where
   -- "a report answers 3 as in 01,
   pub report_refused : (refusal_of b ≡ 0 → ⊥) → reported b p ≡ record { number = refusal_of b; board = b }
   report_refused h = rw (ne_eqb (refusal_of b) 0 h, ne_eqb (refusal_of b) 0 h)
+
+  module _ (sound : refusal_of b ≡ 0) where
+    -- then 5 where its microsteps are outside -255..255, the state unchanged."
+    pub report_outside : sound_position p ≡ false → reported b p ≡ record { number = 5; board = b }
+    report_outside e = rw (eq-eqb (refusal_of b) 0 sound, e)
+
+    pub report_placed : sound_position p ≡ true → reported b p ≡ record { number = 0; board = placed_board b p }
+    report_placed e = rw (eq-eqb (refusal_of b) 0 sound, e)
 
 -- and it is some answer of the code's
 pub report_given : (b : Board) (p : Position) → (x : Result Board Refusal) × (report_in b x ≡ reported b p)

@@ -78,8 +78,8 @@ module _ (κs : _) (a : _) (x : Result ⊤ Refusal) (s : _) (got : hand-out.Post
 abbrev sound_in : Report → Bool
 sound_in r = sound_board r.board
 
-taken_sound : (t : List ℕ) → sound_in (taken_back t) ≡ true
-taken_sound t = by (eqb (length t) (whole_of sheet)) (all_good (record { bytes = t })) refl refl
+sound_taken : (t : List ℕ) → sound_in (taken_back t) ≡ true
+sound_taken t = by (eqb (length t) (whole_of sheet)) (all_good (record { bytes = t })) refl refl
   where
     by : (l g : Bool) → eqb (length t) (whole_of sheet) ≡ l → all_good (record { bytes = t }) ≡ g → sound_in (taken_back t) ≡ true
     by true true e f =
@@ -88,6 +88,9 @@ taken_sound t = by (eqb (length t) (whole_of sheet)) (all_good (record { bytes =
     by true false e f = ap sound_in (back_unsound t (eqb-true _ _ e) f) ∙ with_sound fresh_table ∙ good_all fresh_table good_fresh
     by false g e f = ap sound_in (back_length t (eqb-false _ _ e)) ∙ with_sound fresh_table ∙ good_all fresh_table good_fresh
 
+pub taken_sound : (t : List ℕ) → refusal_of (taken_back t).board ≡ 0
+taken_sound t = refusal_none (taken_back t).board (sound_taken t)
+
 pub back_sound : (κs : _) (a : _) (x : Result Board Refusal) (s : _) → take_back.Post κs a x s
     → refusal_of (report_in (board_of fresh_state) x).board ≡ 0
-back_sound κs a x s is = refusal_none (report_in (board_of fresh_state) x).board (ap sound_in is ∙ taken_sound a.0.now)
+back_sound κs a x s is = ap (λ (r : Report). refusal_of r.board) is ∙ taken_sound a.0.now

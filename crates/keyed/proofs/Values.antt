@@ -1,13 +1,15 @@
 -- Laws of the value beside a key: in two lists and in a list of pairs, and what a value found says. Assumes nothing.
 use Rattle.std.specs.Prelude.{Option, Some, None, nat_eq, option_map, unwrap_or}
-use Rattle.std.specs.List.{find, zip}
+use Rattle.std.specs.List.{find, zip, AllWithin, HoldsAt}
+use Rattle.std.specs.Option.{MatchOption}
 use mathlib.Core.Path.{◌≡◌, refl, sym, subst}
 use mathlib.Core.Bool.{Bool, true, false, cond}
 use mathlib.Core.List.{List, [], ◌∷◌, map}
-use Prim.Native.Nat.{ℕ, ◌<◌}
+use Prim.Native.Nat.{ℕ, zero, suc, ◌<◌}
 use native.Mathlib.Omega.{arith}
 use lib.Dec.{T, eqb}
-use borrow.Author.Tests.{eqb-true}
+use lib.ListN.{length, get_or}
+use borrow.Author.Tests.{eq-eqb, ne_eqb, eqb-true}
 use Rattle.keyed.specs.Keyed.{value_in, value_beside}
 use Rattle.keyed.proofs.Every.{all, first, rest, same_first, same_rest}
 
@@ -35,6 +37,26 @@ value_as f k d (v ∷ vs) (p ∷ ps) none e = by (eqb k p.0) (same_first e) (val
         → f (cond b v (value_in k (map (λ p. p.0) ps) vs d)) ≡ option_map (λ p. p.1) (cond b (Some p) (find (λ p. nat_eq k p.0) ps))
     by true here later = here
     by false here later = later
+
+-- ---- as `position` finds the key's place, from 0 on
+
+abbrev pub PlaceOf : ℕ → List ℕ → Option ℕ → Type 0
+PlaceOf k ks r = MatchOption r (AllWithin (λ a. k ≡ a → ⊥) ks 0 (length ks)) (λ i. (i < length ks) × HoldsAt (λ a. k ≡ a) ks i × AllWithin (λ a. k ≡ a → ⊥) ks 0 i)
+
+pub value_none : (k d : ℕ) (ks vs : List ℕ) → AllWithin (λ a. k ≡ a → ⊥) ks 0 (length ks) → value_in k ks vs d ≡ d
+unfolding value_in
+value_none k d [] vs h = refl
+value_none k d (a ∷ ks) [] h = refl
+value_none k d (a ∷ ks) (v ∷ vs) h = rw (ne_eqb k a (h 0 0 (omega arith) (omega arith))) (value_none k d ks vs (λ i e l u. h (suc i) e (omega arith) (omega arith)))
+
+pub value_here : (k d : ℕ) (ks vs : List ℕ) (i : ℕ) → i < length ks → HoldsAt (λ a. k ≡ a) ks i → AllWithin (λ a. k ≡ a → ⊥) ks 0 i
+    → value_in k ks vs d ≡ get_or vs i d
+unfolding value_in
+value_here k d [] vs i h at before = absurd (omega arith)
+value_here k d (a ∷ ks) [] i h at before = refl
+value_here k d (a ∷ ks) (v ∷ vs) zero h at before = rw (eq-eqb k a (at 0))
+value_here k d (a ∷ ks) (v ∷ vs) (suc i) h at before =
+    rw (ne_eqb k a (before 0 0 (omega arith) (omega arith))) (value_here k d ks vs i (omega arith) at (λ j e l u. before (suc j) e (omega arith) (omega arith)))
 
 -- a test that passes of all values and of none's passes of the value found
 pub value_all : (f : ℕ → Bool) (k d : ℕ) (ks vs : List ℕ) → T (f d) → T (all f vs) → T (f (value_in k ks vs d))

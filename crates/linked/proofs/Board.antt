@@ -30,7 +30,7 @@ use Rattle.state.specs.declared.Board.{Board}
 use Rattle.state.specs.Call.{Call}
 use Rattle.state.specs.declared.Report.{Report}
 use Rattle.flash.specs.Flash.{with_settings}
-use Rattle.flash.proofs.Back.{back_is}
+use Rattle.flash.proofs.Back.{back_is, taken_sound}
 use Rattle.receiver.specs.Receive.{answer}
 use Rattle.demands.specs.Calls.{Answers}
 use Rattle.demands.specs.Reports as reports
@@ -160,3 +160,7 @@ pub linked_back : {b : Board} {before after : List ℕ} {r : Report} → HandsOu
 linked_back (allowed κs a s got e f g) (allowed κs' a' s' is stored) =
     is ∙ back_is κs a (Ok tt) s got refl a'.0.now (stored ∙ ap (take (whole_of sheet)) (sym g))
     ∙ ap (λ (x : Board). record { number = 0; board = with_settings (board_of fresh_state) x.memory.settings }) e
+
+-- A BOARD THAT IS TAKEN BACK IS SOUND, refused or not, of what C and Rust link: a refused table leaves them a board too
+pub linked_sound : {bytes : List ℕ} {r : Report} → TakesBack bytes r → refusal_of r.board ≡ 0
+linked_sound (allowed κs a s is stored) = ap (λ (r : Report). refusal_of r.board) is ∙ taken_sound a.0.now

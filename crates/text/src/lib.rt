@@ -60,7 +60,11 @@ fn digit(d: u8) -> u8
 pub fn write_hex(out: &mut [u8], at: usize, part: &[u8]) -> usize
     ensures { Written out.old at (hex part.now) result out.new }
 {
-    let mut p = at.min(out.len());
+    // Where there is no room, the part is not looked at, however long.
+    if out.len() <= at {
+        return out.len();
+    }
+    let mut p = at;
     for &b in part {
         p = write_byte(out, p, digit(b / 16));
         p = write_byte(out, p, digit(b % 16));

@@ -3,3 +3,4 @@ pub mod Stores
 pub mod Laid
 pub mod Runs
 pub mod One
+pub mod Made

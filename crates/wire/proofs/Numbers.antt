@@ -101,22 +101,6 @@ le_at_rest w p n s e =
         let g = leb-false p (length s) f in
         le_at_past w n s (omega arith) ∙ sym (le_at_past w p s (omega arith))
 
--- zeros behind a list change nothing
-zero_at : (n i : ℕ) → ◌≡◌ {A = ℕ} (get_or (replicate n 0) i 0) 0
-zero_at zero i = refl
-zero_at (suc n) zero = refl
-zero_at (suc n) (suc i) = zero_at n i
-
-behind : (s z : List ℕ) → ((i : ℕ) → get_or z i 0 ≡ 0) → (i : ℕ) → get_or (s ++ z) i 0 ≡ get_or s i 0
-behind [] z h i = h i
-behind (x ∷ s) z h zero = refl
-behind (x ∷ s) z h (suc i) = behind s z h i
-
-pub le_at_zeros : (w p k n : ℕ) (s : List ℕ) → le_at w p (s ++ drop k (replicate n 0)) ≡ le_at w p s
-le_at_zeros w p k n s =
-    le_at_same w p (s ++ drop k (replicate n 0)) s
-    (λ i a b. behind s (drop k (replicate n 0)) (λ j. get_or-drop k (replicate n 0) j 0 ∙ zero_at n (k + j)) i)
-
 -- a number of a + b bytes is that of the first a, and that of the b behind them
 pub le_at_split : (a b p : ℕ) (s : List ℕ) → le_at (a + b) p s ≡ le_at a p s + 256 ^ a * le_at b (p + a) s
 unfolding le_at

@@ -13,23 +13,21 @@ ghost use Rattle.std.proofs.lemmas.List.Edits.{sets};
 ghost use Rattle.wire.specs.Numbers.{le_at, le_bytes};
 ghost use Rattle.wire.specs.Layout.{laid};
 
+use std::array;
 use values::Bits;
 
 // ---- reading
 
-// N bytes from a place on, in an array. Where all are there, they are read together; past the end stand zeros.
-#[tactic(auto, using(crate::proofs::Numbers::le_at_take, crate::proofs::Numbers::le_at_rest, crate::proofs::Numbers::le_at_zeros))]
+// N bytes from a place on, in an array. Where all are there, they are read together. Past the end stand zeros, and then the bytes are read one by one: a
+// copy of so few would be a call, with an array of its own on the stack at every read.
+#[tactic(auto, using(crate::proofs::Numbers::le_at_take, crate::proofs::Numbers::le_at_rest))]
 fn bytes_at<const N: usize>(s: &[u8], at: usize) -> [u8; N]
     ensures { le_at N 0 result ≡ le_at N at s.now }
 {
     let rest = &s[at.min(s.len())..];
     match rest.split_first_chunk() {
         Some((bytes, _)) => *bytes,
-        None => {
-            let mut bytes = [0; N];
-            bytes[..rest.len()].copy_from_slice(rest);
-            bytes
-        }
+        None => array::from_fn(|k| rest.get(k).copied().unwrap_or(0)),
     }
 }
 
@@ -253,8 +251,9 @@ pub fn lay(out: &mut [u8], ws: &[usize], vs: &[u64])
     }
 }
 
-// The bytes of a part from a place on, as many as fit.
-#[tactic(auto, using(crate::proofs::Stores::sets_past, crate::proofs::Stores::stored))]
+// The bytes of a part from a place on, as many as fit. Byte by byte, which the compiler makes one memcpy: with `copy_from_slice` an archive would ask
+// for memmove besides, which a board's C library need not have.
+#[tactic(auto, using(crate::proofs::Stores::sets_past))]
 pub fn copy(out: &mut [u8], at: usize, part: &[u8])
     ensures { out.new ≡ sets out.old at part.now }
 {
@@ -262,5 +261,7 @@ pub fn copy(out: &mut [u8], at: usize, part: &[u8])
         return;
     }
     let n = part.len().min(out.len() - at);
-    out[at..at + n].copy_from_slice(&part[..n]);
+    for k in 0..n {
+        out[at + k] = part[k];
+    }
 }

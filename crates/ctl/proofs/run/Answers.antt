@@ -11,7 +11,7 @@ use Rattle.wire.specs.Numbers.{le_at}
 use Rattle.wire.specs.Layout.{numbers}
 use Rattle.wire.proofs.Laid.{length_numbers}
 use Rattle.wire.proofs.Runs.{run_at}
-use Rattle.ctl.proofs.Made.{made}
+use Rattle.wire.proofs.Made.{made}
 use Rattle.ctl.proofs.run.Goals as goal
 
 pub returns : goal.returns

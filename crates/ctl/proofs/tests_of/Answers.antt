@@ -7,7 +7,7 @@ use lib.Dec.{leb, eqb}
 use lib.ListN.{get_or}
 use borrow.Author.Rules.{rules}
 use Rattle.ranges.specs.Tests.{within, signed_within, only_bits}
-use Rattle.ctl.proofs.Made.{made}
+use Rattle.wire.proofs.Made.{made}
 use Rattle.ctl.proofs.tests_of.Goals as goal
 
 -- the test of field k

@@ -1,8 +1,12 @@
--- Two digits more a byte. Assumes nothing.
-use Rattle.std.proofs.Common.{rules}
+-- Past the end nothing is written; else two digits more a byte. Assumes nothing.
+use Rattle.std.proofs.Common.{rules, sym, arith}
+use Rattle.wire.proofs.Stores.{sets_past}
 use Rattle.text.specs.Texts.{hex}
 use Rattle.text.proofs.Texts.{then, begun, hex_next}
 use Rattle.text.proofs.write_hex.Goals as goal
+
+pub returns-then-out-at : goal.returns-then-out-at
+returns-then-out-at c = record { bytes = sym (sets_past (hex c.args.part.now) c.args.out.now c.args.at c.if-out-at.true); behind = omega arith }
 
 pub loop-b-init : goal.loop-b-init
 unfolding hex

@@ -4,7 +4,7 @@ use lib.Seq.{length-take-le}
 use borrow.Rule.Slice.PartMut.{put_mid}
 use Rattle.wire.specs.Numbers.{le_bytes}
 use Rattle.wire.proofs.Numbers.{length_le_bytes}
-use Rattle.wire.proofs.Stores.{put_step, sets_past, stored, take_le_bytes}
+use Rattle.wire.proofs.Stores.{put_step, stored, take_le_bytes}
 use Rattle.wire.proofs.Runs.{sets_whole}
 use Rattle.wire.proofs.put.Goals as goal
 

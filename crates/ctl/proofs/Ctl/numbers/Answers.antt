@@ -8,7 +8,7 @@ use mir.Syntax.{w16, w32}
 use mir.Val.{of_z}
 use borrow.Author.Rules.{rules}
 use borrow.Rule.Slice.PartMut.{put_mid}
-use Rattle.ctl.proofs.Made.{mapped}
+use Rattle.wire.proofs.Made.{mapped}
 use Rattle.ctl.proofs.Ctl.numbers.Goals as goal
 
 -- all 33 places are filled

@@ -20,8 +20,11 @@ module _ {F B : Type 0} (g : Mut F (ℕ × Unit {0}) B) (f : F) (v : ℕ → B) 
       let j : i + 1 + k ≡ i + suc k = omega arith in
       subst (λ (m : ℕ). get_or ys m d ≡ v m) j (made_at n (i + 1) ys r.0 same r.4 k d (omega arith))
 
+  pub made_each : (ys : List B) (n : ℕ) → IsFromFnResult g f ys n → (k : ℕ) (d : B) → k < n → get_or ys k d ≡ v k
+  made_each ys n r k d b = subst (λ (m : ℕ). get_or ys m d ≡ v m) (zero-add k) (made_at n 0 ys f refl r.each k d b)
+
   pub made : (ys : List B) (n : ℕ) (d : B) → IsFromFnResult g f ys n → ys ≡ map v (range_with_len 0 n)
-  made ys n d r = fill_by_all v ys n d r.long (λ k b. subst (λ (m : ℕ). get_or ys m d ≡ v m) (zero-add k) (made_at n 0 ys f refl r.each k d b))
+  made ys n d r = fill_by_all v ys n d r.long (λ k b. made_each ys n r k d b)
 
 -- an array whose elements `map` gives back as they were
 pub mapped : {F : Type 0} (g : Mut F (ℕ × Unit {0}) ℕ) {f : F} {n : ℕ} (xs ys : List ℕ) → IsMapOf g f xs ys n → length xs ≡ n
