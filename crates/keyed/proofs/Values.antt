@@ -2,13 +2,13 @@
 use Rattle.std.specs.Prelude.{Option, Some, None, nat_eq, option_map, unwrap_or}
 use Rattle.std.specs.List.{find, zip, AllWithin, HoldsAt}
 use Rattle.std.specs.Option.{MatchOption}
-use mathlib.Core.Path.{◌≡◌, refl, sym, subst}
+use mathlib.Core.Path.{◌≡◌, refl, sym, ap, subst}
 use mathlib.Core.Bool.{Bool, true, false, cond}
 use mathlib.Core.List.{List, [], ◌∷◌, map}
-use Prim.Native.Nat.{ℕ, zero, suc, ◌<◌}
+use Prim.Native.Nat.{ℕ, zero, suc, ◌≤◌, ◌<◌, min}
 use native.Mathlib.Omega.{arith}
 use lib.Dec.{T, eqb}
-use lib.ListN.{length, get_or}
+use lib.ListN.{length, get_or, take}
 use borrow.Author.Tests.{eq-eqb, ne_eqb, eqb-true}
 use Rattle.keyed.specs.Keyed.{value_in, value_beside}
 use Rattle.keyed.proofs.Every.{all, first, rest, same_first, same_rest}
@@ -57,6 +57,16 @@ value_here k d (a ∷ ks) [] i h at before = refl
 value_here k d (a ∷ ks) (v ∷ vs) zero h at before = rw (eq-eqb k a (at 0))
 value_here k d (a ∷ ks) (v ∷ vs) (suc i) h at before =
     rw (ne_eqb k a (before 0 0 (omega arith) (omega arith))) (value_here k d ks vs i (omega arith) at (λ j e l u. before (suc j) e (omega arith) (omega arith)))
+
+-- a key past the values is as if it were not there
+pub value_cut : (k d n : ℕ) (ks vs : List ℕ) → min (length ks) (length vs) ≤ n → value_in k (take n ks) vs d ≡ value_in k ks vs d
+unfolding value_in
+value_cut k d zero [] vs h = refl
+value_cut k d (suc n) [] vs h = refl
+value_cut k d zero (a ∷ ks) [] h = refl
+value_cut k d (suc n) (a ∷ ks) [] h = refl
+value_cut k d zero (a ∷ ks) (v ∷ vs) h = absurd (omega arith)
+value_cut k d (suc n) (a ∷ ks) (v ∷ vs) h = ap (cond (eqb k a) v) (value_cut k d n ks vs (omega arith))
 
 -- a test that passes of all values and of none's passes of the value found
 pub value_all : (f : ℕ → Bool) (k d : ℕ) (ks vs : List ℕ) → T (f d) → T (all f vs) → T (f (value_in k ks vs d))

@@ -15,8 +15,10 @@ pub fn value_of<K: Copy + Eq, V: Copy>(key: K, pairs: &[(K, V)]) -> Option<V>
 pub fn value_in(key: usize, keys: &[usize], values: &[usize], none: usize) -> usize
     ensures { result ≡ value_in key keys.now values.now none }
 {
+    // A key without a value is not looked at.
+    let keys = &keys[..keys.len().min(values.len())];
     match keys.iter().position(|k| key == *k) {
-        Some(place) => values.get(place).copied().unwrap_or(none),
+        Some(place) => values[place],
         None => none,
     }
 }
